@@ -1,0 +1,4 @@
+pub mod Permuting
+pub mod BitLaws
+pub mod PackedLaws
+pub mod LinesLaws

@@ -1,0 +1,4 @@
+pub mod Hashes
+pub mod Lines
+pub mod Members
+pub mod Packed
