@@ -1,4 +1,1 @@
-pub mod Hashes
-pub mod Lines
 pub mod Members
-pub mod Packed

@@ -1,0 +1,3 @@
+mod Permuting
+mod BitLaws
+mod PackedLaws

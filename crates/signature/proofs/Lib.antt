@@ -1,4 +1,0 @@
-pub mod Permuting
-pub mod BitLaws
-pub mod PackedLaws
-pub mod LinesLaws
