@@ -19,20 +19,6 @@ among-append n (x ∷ xs) ys = ap (λ t. eqb n x || t) (among-append n xs ys) �
 among-last : (n : ℕ) (xs : List ℕ) → among n (xs ++ n ∷ []) ≡ true
 among-last n xs = among-append n xs (n ∷ []) ∙ ap (λ t. among n xs || (t || false)) (eq-eqb n n refl) ∙ or-true (among n xs)
 
--- a search from the front: what is left decides
-module _ (line : ℕ) (xs : List ℕ) (i : ℕ) where
-  pub found-here : i < length xs → getD xs i 0 ≡ line → among line (drop i xs) ≡ true
-  found-here h e =
-      at-drop-more (λ ys. among line ys) xs i 0 h ∙ ap (λ t. t || among line (drop (i + 1) xs)) (eq-eqb line (getD xs i 0) (sym e))
-
-  pub not-here : i < length xs → (getD xs i 0 ≡ line → ⊥) → among line (drop i xs) ≡ among line (drop (i + 1) xs)
-  not-here h ne =
-      at-drop-more (λ ys. among line ys) xs i 0 h
-      ∙ ap (λ t. t || among line (drop (i + 1) xs)) (ne-eqb line (getD xs i 0) (λ e. ne (sym e)))
-
-  pub none-left : length xs ≤ i → among line (drop i xs) ≡ false
-  none-left h = at-drop-all (λ ys. among line ys) xs i h
-
 pub insert-adds : (s : Lines) (line : ℕ) → hits (inserted s line) line ≡ true
 insert-adds s line =
     cond-both (hits s line) _ _ (λ t. hits t line ≡ true) (λ h. h)

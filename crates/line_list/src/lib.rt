@@ -20,12 +20,7 @@ pub struct LineList {
 fn holds(lines: &[u16], line: u16) -> bool
     ensures { λ r. ⌜ r ≡ among line (now (lines .entry)) ⌝ }
 {
-    for held in lines {
-        if *held == line {
-            return true;
-        }
-    }
-    false
+    lines.contains(&line)
 }
 
 impl LineList {
