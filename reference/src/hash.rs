@@ -26,6 +26,17 @@ mod tests {
         assert_eq!(hashes(1), [1, 0x8000, 32, 512]);
     }
 
+    // Through a register no bit of a hash above bit 9 shows, so the whole hashes are checked here.
+    #[test]
+    fn line_16_384_fills_the_high_end() {
+        assert_eq!(hashes(0x4000), [0x4000, 2, 0, 0x8000]);
+    }
+
+    #[test]
+    fn p_goes_in_steps_of_5() {
+        assert!((0..16).map(|i| (3 + 5 * i) % 16).eq(P));
+    }
+
     #[test]
     fn spreading_loses_no_line() {
         let mut spreads: Vec<u16> = (0..=u16::MAX).map(spread).collect();

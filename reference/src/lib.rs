@@ -3,6 +3,7 @@
 pub mod card;
 pub mod hash;
 pub mod inputs;
+mod random;
 pub mod signature;
 
 pub use card::punch;

@@ -168,10 +168,12 @@ mod tests {
 
     #[test]
     fn line_128_makes_a_false_hit_on_line_0() {
-        let register: Register128 = with([128]);
+        let mut register: Register128 = with([128]);
         assert_eq!(bits_set(&register), [0, 16]);
         assert_eq!(register.count(), 2);
         assert!(register.hit(128) && register.hit(0) && !register.hit(1));
+        register.reset();
+        assert_eq!(hits(&register), []);
     }
 
     #[test]
@@ -188,6 +190,8 @@ mod tests {
         assert_eq!(hits(&list), lines);
         list.insert(8);
         assert_eq!(hits(&list).len(), 65_536);
+        list.reset();
+        assert_eq!(hits(&list), []);
     }
 
     #[test]

@@ -10,8 +10,9 @@ use std::thread;
 
 use reference::inputs::{all_lines, inputs};
 
-/// How many bytes of an input or output are shown.
-const SHOWN: usize = 4000;
+/// How many bytes are shown: enough to repeat all but the few longest inputs.
+const INPUT_SHOWN: usize = 30_000;
+const OUTPUT_SHOWN: usize = 2_000;
 
 /// What a run leaves behind.
 #[derive(PartialEq)]
@@ -112,13 +113,16 @@ fn run(program: &OsStr, input: &[u8]) -> Result<Outcome, Box<dyn Error>> {
 
 fn report(input: &[u8], expected: &Outcome, found: &Outcome) {
     println!("compare: a difference with the input");
-    println!("  {}", shown(input));
-    println!(
-        "status: expected {:?}, found {:?}",
-        expected.status, found.status
-    );
+    println!("  {}", shown(input, INPUT_SHOWN));
+    report_status(expected.status, found.status);
     report_stream("stdout", &expected.stdout, &found.stdout);
     report_stream("stderr", &expected.stderr, &found.stderr);
+}
+
+fn report_status(expected: Option<i32>, found: Option<i32>) {
+    let [expected, found] =
+        [expected, found].map(|status| status.map_or("a signal".into(), |code| code.to_string()));
+    println!("status: expected {expected}, found {found}");
 }
 
 /// Shows both streams from the first line that differs, because a listing may be long.
@@ -134,18 +138,15 @@ fn report_stream(name: &str, expected: &[u8], found: &[u8]) {
         .iter()
         .rposition(|&byte| byte == b'\n')
         .map_or(0, |at| at + 1);
-    println!("{name} from byte {start}:");
-    println!("  expected {}", shown(&expected[start..]));
-    println!("  found    {}", shown(&found[start..]));
+    println!("{name} from byte {start} on:");
+    println!("  expected {}", shown(&expected[start..], OUTPUT_SHOWN));
+    println!("  found    {}", shown(&found[start..], OUTPUT_SHOWN));
 }
 
-fn shown(bytes: &[u8]) -> String {
-    match bytes.get(..SHOWN) {
-        Some(head) => format!(
-            "\"{}\" and more, {} bytes in all",
-            head.escape_ascii(),
-            bytes.len()
-        ),
-        None => format!("\"{}\"", bytes.escape_ascii()),
+fn shown(bytes: &[u8], limit: usize) -> String {
+    let head = &bytes[..bytes.len().min(limit)];
+    match bytes.len() - head.len() {
+        0 => format!("\"{}\"", head.escape_ascii()),
+        more => format!("\"{}\" and {more} bytes more", head.escape_ascii()),
     }
 }

@@ -1,0 +1,2 @@
+// What the punch program reads, does and reports.
+pub mod reading;
