@@ -1,1 +1,3 @@
+mod FillLaws
+mod ListingLaws
 mod TextLaws

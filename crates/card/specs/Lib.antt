@@ -1,1 +1,3 @@
+pub mod Fills
+pub mod Listings
 pub mod Texts

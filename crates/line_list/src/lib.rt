@@ -17,7 +17,8 @@ pub struct LineList {
     ghost room: { count ≤ 16 },
 }
 
-fn holds(lines: &[u16], line: u16) -> bool
+// Whether the line is one of these.
+pub fn holds(lines: &[u16], line: u16) -> bool
     ensures { λ r. ⌜ r ≡ among line (now (lines .entry)) ⌝ }
 {
     lines.contains(&line)

@@ -1,0 +1,37 @@
+-- The text of the listing. Assumes nothing.
+use mathlib.Core.Bool.{Bool}
+use mathlib.Core.List.{List, [], _∷_, _++_}
+use Prim.Native.Nat.{ℕ}
+use lib.Chars.{codes}
+use Rattle.std.specs.Joined.{joined}
+use Rattle.std.specs.Written.{decimal}
+use Rattle.register.specs.Packed.{bits-of}
+use Rattle.card.specs.Fills.{hitting, never-inserted, ascending-of}
+
+-- a number in decimal, behind a space
+abbrev pub after-space : ℕ → List ℕ
+after-space n = codes " " ++ decimal n
+
+-- the numbers in decimal with a space between them, or a word where there are none
+abbrev pub spaced-text : List ℕ → List ℕ
+spaced-text [] = codes "none"
+spaced-text (n ∷ numbers) = decimal n ++ joined after-space numbers
+
+-- a line, and the bits that it sets in a register of each width
+abbrev pub sets-text : ℕ → List ℕ → List ℕ → List ℕ
+sets-text line wide narrow =
+    codes "line " ++ (decimal line ++ (codes ": 1024-bit register sets " ++ (wide ++ (codes ", 128-bit register sets " ++ narrow))))
+
+-- what the insert of a line sets, each bit once and in ascending order
+abbrev pub insertion-text : ℕ → List ℕ
+insertion-text line =
+    sets-text line (spaced-text (ascending-of 1024 (bits-of 16 line))) (spaced-text (ascending-of 128 (bits-of 2 line)))
+
+-- the name of a signature, which lines hit it, and how many of these were never inserted
+abbrev pub summary-text : List ℕ → (ℕ → Bool) → List ℕ → List ℕ
+summary-text name has inserted =
+    name ++ (codes ": hits " ++ (spaced-text (hitting has) ++ (codes ", " ++ (decimal (never-inserted inserted (hitting has)) ++ codes " false"))))
+
+-- how many of a register's bits are set
+abbrev pub fullness-text : ℕ → ℕ → List ℕ
+fullness-text set all = codes ", " ++ (decimal set ++ (codes " of " ++ (decimal all ++ codes " bits set")))

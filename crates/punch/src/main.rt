@@ -1,0 +1,65 @@
+// Punches a card: inserts the lines of standard input into a signature of each kind, and prints what became of them.
+use card::filling::fill;
+use card::filling::set_bits;
+use card::listing::fullness;
+use card::listing::insertion;
+use card::listing::summary;
+use card::reading::read;
+use line_list::LineList;
+use register::Register;
+use register::Register1024;
+use register::Register128;
+use signature::both::Both;
+use signature::coarse::Coarse;
+use std::error::AnyError;
+use std::io::Read;
+use line_list::LineListSignature;
+use register::RegisterSignature;
+use signature::both::BothSignature;
+use signature::coarse::CoarseSignature;
+
+fn show_insertions(rt: &LibcRuntime, lines: &[u16]) -> Result<(), AnyError> {
+    let wide = Register1024::new();
+    let narrow = Register128::new();
+    for line in lines {
+        rt.println(insertion(rt.alloc(), &wide, &narrow, *line)?)?;
+    }
+    Ok(())
+}
+
+fn show_register<const WORDS: usize>(rt: &LibcRuntime, name: &str, mut register: Register<WORDS>, lines: &[u16]) -> Result<(), AnyError> {
+    fill(&mut register, lines);
+    let hits = summary(rt.alloc(), name, &register, lines)?;
+    let full = fullness(rt.alloc(), set_bits(&register), 64 * WORDS)?;
+    println!(rt, "{hits}{full}")?;
+    Ok(())
+}
+
+fn show_summaries(rt: &LibcRuntime, lines: &[u16]) -> Result<(), AnyError> {
+    show_register(rt, "1024-bit register", Register1024::new(), lines)?;
+    show_register(rt, "128-bit register", Register128::new(), lines)?;
+    let mut list = LineList::new();
+    fill(&mut list, lines);
+    rt.println(summary(rt.alloc(), "list", &list, lines)?)?;
+    let mut both = Both { first: Register128::new(), second: LineList::new() };
+    fill(&mut both, lines);
+    rt.println(summary(rt.alloc(), "both", &both, lines)?)?;
+    let mut coarse = Coarse { below: LineList::new() };
+    fill(&mut coarse, lines);
+    rt.println(summary(rt.alloc(), "coarse", &coarse, lines)?)?;
+    Ok(())
+}
+
+fn main(rt: LibcRuntime) -> Result<(), AnyError> {
+    let mut text = Vec::new(rt.alloc());
+    rt.stdin().read_to_end(&mut text)?;
+    let reading = read(rt.alloc(), &text)?;
+    show_insertions(&rt, &reading.lines)?;
+    match reading.malformed {
+        Some(place) => {
+            eprintln!(rt, "input line {place} is no number below 65536")?;
+            Err("malformed input".into())
+        }
+        None => show_summaries(&rt, &reading.lines),
+    }
+}
