@@ -5,8 +5,8 @@ use Prim.Native.Nat.{ℕ}
 use lib.Chars.{codes}
 use Rattle.std.specs.Joined.{joined}
 use Rattle.std.specs.Written.{decimal}
-use Rattle.register.specs.Packed.{bits-of}
-use Rattle.card.specs.Fills.{hitting, never-inserted, ascending-of}
+use Rattle.register.specs.Packed.{width, bits-of}
+use Rattle.card.specs.Fills.{hitting, never-inserted, ascending-of, bits-set}
 
 -- a number in decimal, behind a space
 abbrev pub after-space : ℕ → List ℕ
@@ -27,11 +27,18 @@ abbrev pub insertion-text : ℕ → List ℕ
 insertion-text line =
     sets-text line (spaced-text (ascending-of 1024 (bits-of 16 line))) (spaced-text (ascending-of 128 (bits-of 2 line)))
 
--- the name of a signature, which lines hit it, and how many of these were never inserted
+-- the name of a signature, the lines that hit it, and how many of these are false hits
+abbrev pub hits-text : List ℕ → List ℕ → ℕ → List ℕ
+hits-text name hits false = name ++ (codes ": hits " ++ (hits ++ (codes ", " ++ (decimal false ++ codes " false"))))
+
+-- the same of a signature by what it has, and the lines that were inserted
 abbrev pub summary-text : List ℕ → (ℕ → Bool) → List ℕ → List ℕ
-summary-text name has inserted =
-    name ++ (codes ": hits " ++ (spaced-text (hitting has) ++ (codes ", " ++ (decimal (never-inserted inserted (hitting has)) ++ codes " false"))))
+summary-text name has inserted = hits-text name (spaced-text (hitting has)) (never-inserted inserted (hitting has))
 
 -- how many of a register's bits are set
-abbrev pub fullness-text : ℕ → ℕ → List ℕ
-fullness-text set all = codes ", " ++ (decimal set ++ (codes " of " ++ (decimal all ++ codes " bits set")))
+abbrev pub bits-text : ℕ → ℕ → List ℕ
+bits-text set all = codes ", " ++ (decimal set ++ (codes " of " ++ (decimal all ++ codes " bits set")))
+
+-- the same of a register of so many words
+abbrev pub fullness-text : ℕ → List ℕ → List ℕ
+fullness-text count words = bits-text (bits-set count words) (width count)

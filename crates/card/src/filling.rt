@@ -14,7 +14,7 @@ use std::alloc::Global;
 // The lines that a summary speaks of are those below this one.
 const SHOWN: u16 = 64;
 
-pub fn fill<S: Signature>(signature: &mut S, lines: &[u16])
+pub(crate) fn fill<S: Signature>(signature: &mut S, lines: &[u16])
     ensures { λ _. ⌜ Filled (S·Signature .has) (S·Signature .inserts) (now (signature .entry)) (now (lines .entry)) (now (signature .exit)) ⌝ }
 {
     for line in lines {
@@ -31,7 +31,7 @@ fn keep_if(found: &mut Vec<u16>, number: u16, wanted: bool) -> Result<(), AllocE
     Ok(())
 }
 
-pub fn hits<S: Signature>(heap: Global, signature: &S) -> Result<Vec<u16>, AllocError>
+pub(crate) fn hits<S: Signature>(heap: Global, signature: &S) -> Result<Vec<u16>, AllocError>
     ensures { λ r. ⌜ made r (λ v. vec-items v ≡ hitting (S·Signature .has (now (signature .entry)))) ⌝ }
 {
     let mut found = Vec::new(heap);
@@ -42,7 +42,7 @@ pub fn hits<S: Signature>(heap: Global, signature: &S) -> Result<Vec<u16>, Alloc
 }
 
 // How many of the hits were never inserted.
-pub fn false_hits(hits: &[u16], inserted: &[u16]) -> usize
+pub(crate) fn false_hits(hits: &[u16], inserted: &[u16]) -> usize
     ensures { λ r. ⌜ r ≡ never-inserted (now (inserted .entry)) (now (hits .entry)) ⌝ }
 {
     let mut count = 0;
@@ -53,7 +53,7 @@ pub fn false_hits(hits: &[u16], inserted: &[u16]) -> usize
 }
 
 // The numbers, all below `end`, each once and in ascending order.
-pub fn ascending(heap: Global, numbers: &[u16], end: u16) -> Result<Vec<u16>, AllocError>
+pub(crate) fn ascending(heap: Global, numbers: &[u16], end: u16) -> Result<Vec<u16>, AllocError>
     ensures { λ r. ⌜ made r (λ v. vec-items v ≡ ascending-of end (now (numbers .entry))) ⌝ }
 {
     let mut found = Vec::new(heap);
@@ -64,7 +64,7 @@ pub fn ascending(heap: Global, numbers: &[u16], end: u16) -> Result<Vec<u16>, Al
 }
 
 // How many bits of a register are set.
-pub fn set_bits<const WORDS: usize>(register: &Register<WORDS>) -> usize
+pub(crate) fn set_bits<const WORDS: usize>(register: &Register<WORDS>) -> usize
     ensures { λ r. ⌜ r ≡ bits-set WORDS (now (register .entry) .words) ⌝ }
 {
     let mut count = 0;

@@ -1,4 +1,4 @@
 // What the punch program reads, does and reports.
-pub mod filling;
+mod filling;
 pub mod listing;
 pub mod reading;

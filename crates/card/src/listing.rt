@@ -5,13 +5,16 @@ ghost use Rattle.std.specs.Joined.{joined};
 ghost use Rattle.std.specs.Of.String.{string-bytes};
 ghost use Rattle.std.specs.Vec.{made};
 ghost use Rattle.std.specs.Written.{decimal};
-ghost use Rattle.card.specs.Listings.{after-space, spaced-text, sets-text, insertion-text, summary-text, fullness-text};
-ghost use Rattle.card.specs.Fills.{ascending-of};
+ghost use Rattle.card.specs.Listings.{after-space, spaced-text, sets-text, insertion-text, hits-text, summary-text, bits-text, fullness-text};
+ghost use Rattle.card.specs.Fills.{Filled, ascending-of};
 use crate::filling::ascending;
 use crate::filling::false_hits;
+use crate::filling::fill;
 use crate::filling::hits;
-use register::Register1024;
+use crate::filling::set_bits;
+use register::Register;
 use register::Register128;
+use register::Register1024;
 use signature::Signature;
 use std::alloc::AllocError;
 use std::alloc::Global;
@@ -52,11 +55,19 @@ fn bits_shown(heap: Global, bits: &[u16], end: u16) -> Result<String, AllocError
 fn insertion_line(heap: Global, line: u16, wide: &str, narrow: &str) -> Result<String, AllocError>
     ensures { λ r. ⌜ made r (λ s. string-bytes s ≡ sets-text line (now (wide .entry)) (now (narrow .entry))) ⌝ }
 {
-    format!(heap, "line {line}: 1024-bit register sets {wide}, 128-bit register sets {narrow}")
+    format!(
+        heap,
+        "line {line}: 1024-bit register sets {wide}, 128-bit register sets {narrow}"
+    )
 }
 
 // What the insert of a line sets in a register of each width.
-pub fn insertion(heap: Global, wide: &Register1024, narrow: &Register128, line: u16) -> Result<String, AllocError>
+pub fn insertion(
+    heap: Global,
+    wide: &Register1024,
+    narrow: &Register128,
+    line: u16,
+) -> Result<String, AllocError>
     ensures { λ r. ⌜ made r (λ s. string-bytes s ≡ insertion-text line) ⌝ }
 {
     let wide = bits_shown(heap, &wide.bits(line), 1024)?;
@@ -64,19 +75,45 @@ pub fn insertion(heap: Global, wide: &Register1024, narrow: &Register128, line: 
     insertion_line(heap, line, wide.as_str(), narrow.as_str())
 }
 
-// Which lines hit a signature, and how many of these were never inserted.
-pub fn summary<S: Signature>(heap: Global, name: &str, signature: &S, inserted: &[u16]) -> Result<String, AllocError>
-    ensures { λ r. ⌜ made r (λ s. string-bytes s ≡ summary-text (now (name .entry)) (S·Signature .has (now (signature .entry))) (now (inserted .entry))) ⌝ }
+fn summary_line(
+    heap: Global,
+    name: &str,
+    hits: &str,
+    false_hits: usize,
+) -> Result<String, AllocError>
+    ensures { λ r. ⌜ made r (λ s. string-bytes s ≡ hits-text (now (name .entry)) (now (hits .entry)) «false_hits») ⌝ }
 {
+    format!(heap, "{name}: hits {hits}, {false_hits} false")
+}
+
+// Inserts the lines, and says which lines hit then and how many of these were never inserted.
+pub fn summary<S: Signature>(
+    heap: Global,
+    name: &str,
+    signature: &mut S,
+    lines: &[u16],
+) -> Result<String, AllocError>
+    ensures fills { λ _. ⌜ Filled (S·Signature .has) (S·Signature .inserts) (now (signature .entry)) (now (lines .entry)) (now (signature .exit)) ⌝ }
+    ensures tells { λ r. ⌜ made r (λ s. string-bytes s ≡ summary-text (now (name .entry)) (S·Signature .has (now (signature .exit))) (now (lines .entry))) ⌝ }
+{
+    fill(signature, lines);
     let found = hits(heap, signature)?;
-    let count = false_hits(&found, inserted);
     let shown = spaced(heap, &found)?;
-    format!(heap, "{name}: hits {shown}, {count} false")
+    summary_line(heap, name, shown.as_str(), false_hits(&found, lines))
 }
 
 // How full a register is, to be put behind its summary.
-pub fn fullness(heap: Global, set: usize, width: usize) -> Result<String, AllocError>
-    ensures { λ r. ⌜ made r (λ s. string-bytes s ≡ fullness-text set width) ⌝ }
+pub fn fullness<const WORDS: usize>(
+    heap: Global,
+    register: &Register<WORDS>,
+) -> Result<String, AllocError>
+    ensures { λ r. ⌜ made r (λ s. string-bytes s ≡ fullness-text WORDS (now (register .entry) .words)) ⌝ }
+{
+    fullness_line(heap, set_bits(register), 64 * WORDS)
+}
+
+fn fullness_line(heap: Global, set: usize, width: usize) -> Result<String, AllocError>
+    ensures { λ r. ⌜ made r (λ s. string-bytes s ≡ bits-text set width) ⌝ }
 {
     format!(heap, ", {set} of {width} bits set")
 }

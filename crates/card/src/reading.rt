@@ -65,11 +65,17 @@ pub fn read(heap: Global, text: &[u8]) -> Result<Reading, AllocError>
     while start < text.len() {
         let end = start + line_length(&text[start..]);
         let Some(line) = number(&text[start..end]) else {
-            return Ok(Reading { lines, malformed: Some(place) });
+            return Ok(Reading {
+                lines,
+                malformed: Some(place),
+            });
         };
         lines.push(line)?;
         place += 1;
         start = end + 1;
     }
-    Ok(Reading { lines, malformed: None })
+    Ok(Reading {
+        lines,
+        malformed: None,
+    })
 }

@@ -44,7 +44,11 @@ impl LineList {
     pub fn new() -> Self
         ensures { λ r. ⌜ lines-of (r .lines) (r .count) (r .overflowed) ≡ no-lines ⌝ }
     {
-        LineList { lines: [0; ROOM], count: 0, overflowed: false }
+        LineList {
+            lines: [0; ROOM],
+            count: 0,
+            overflowed: false,
+        }
     }
 }
 

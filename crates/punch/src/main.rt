@@ -1,22 +1,20 @@
 // Punches a card: inserts the lines of standard input into a signature of each kind, and prints what became of them.
-use card::filling::fill;
-use card::filling::set_bits;
 use card::listing::fullness;
 use card::listing::insertion;
 use card::listing::summary;
 use card::reading::read;
 use line_list::LineList;
+use line_list::LineListSignature;
 use register::Register;
-use register::Register1024;
 use register::Register128;
+use register::Register1024;
+use register::RegisterSignature;
 use signature::both::Both;
+use signature::both::BothSignature;
 use signature::coarse::Coarse;
+use signature::coarse::CoarseSignature;
 use std::error::AnyError;
 use std::io::Read;
-use line_list::LineListSignature;
-use register::RegisterSignature;
-use signature::both::BothSignature;
-use signature::coarse::CoarseSignature;
 
 fn show_insertions(rt: &LibcRuntime, lines: &[u16]) -> Result<(), AnyError> {
     let wide = Register1024::new();
@@ -27,10 +25,14 @@ fn show_insertions(rt: &LibcRuntime, lines: &[u16]) -> Result<(), AnyError> {
     Ok(())
 }
 
-fn show_register<const WORDS: usize>(rt: &LibcRuntime, name: &str, mut register: Register<WORDS>, lines: &[u16]) -> Result<(), AnyError> {
-    fill(&mut register, lines);
-    let hits = summary(rt.alloc(), name, &register, lines)?;
-    let full = fullness(rt.alloc(), set_bits(&register), 64 * WORDS)?;
+fn show_register<const WORDS: usize>(
+    rt: &LibcRuntime,
+    name: &str,
+    mut register: Register<WORDS>,
+    lines: &[u16],
+) -> Result<(), AnyError> {
+    let hits = summary(rt.alloc(), name, &mut register, lines)?;
+    let full = fullness(rt.alloc(), &register)?;
     println!(rt, "{hits}{full}")?;
     Ok(())
 }
@@ -39,14 +41,16 @@ fn show_summaries(rt: &LibcRuntime, lines: &[u16]) -> Result<(), AnyError> {
     show_register(rt, "1024-bit register", Register1024::new(), lines)?;
     show_register(rt, "128-bit register", Register128::new(), lines)?;
     let mut list = LineList::new();
-    fill(&mut list, lines);
-    rt.println(summary(rt.alloc(), "list", &list, lines)?)?;
-    let mut both = Both { first: Register128::new(), second: LineList::new() };
-    fill(&mut both, lines);
-    rt.println(summary(rt.alloc(), "both", &both, lines)?)?;
-    let mut coarse = Coarse { below: LineList::new() };
-    fill(&mut coarse, lines);
-    rt.println(summary(rt.alloc(), "coarse", &coarse, lines)?)?;
+    rt.println(summary(rt.alloc(), "list", &mut list, lines)?)?;
+    let mut both = Both {
+        first: Register128::new(),
+        second: LineList::new(),
+    };
+    rt.println(summary(rt.alloc(), "both", &mut both, lines)?)?;
+    let mut coarse = Coarse {
+        below: LineList::new(),
+    };
+    rt.println(summary(rt.alloc(), "coarse", &mut coarse, lines)?)?;
     Ok(())
 }
 

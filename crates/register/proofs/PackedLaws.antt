@@ -90,11 +90,10 @@ bits-below count line some =
 
 own : (ks : List ℕ) → All (λ k. among k ks ≡ true) ks
 own [] = tt
-own (k ∷ ks) =
-    (
-      or-left (eqb k k) (among k ks) (eq-eqb k k refl),
-      all-weaker (λ m. among m ks ≡ true) (λ m. among m (k ∷ ks) ≡ true) (λ m h. or-right (eqb m k) (among m ks) h) ks (own ks),
-    )
+own (k ∷ ks) = (
+  or-left (eqb k k) (among k ks) (eq-eqb k k refl),
+  all-weaker (λ m. among m ks ≡ true) (λ m. among m (k ∷ ks) ≡ true) (λ m h. or-right (eqb m k) (among m ks) h) ks (own ks),
+)
 
 pub cleared-misses : (count : ℕ) (words : List ℕ) (line : ℕ) → 0 < count → Cleared count words → all-set words (bits-of count line) ≡ false
 cleared-misses count words line some clear =

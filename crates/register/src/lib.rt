@@ -8,8 +8,8 @@ ghost use lib.Dec.{ltb};
 ghost use lib.ListN.{replicate};
 ghost use Rattle.register.specs.Packed.{width, is-set, all-set, bits-of, Cleared, Sets};
 use signature::Signature;
-mod hash;
 
+mod hash;
 
 // The bits stand sixty-four to a word; a register has at least one word, and no more bits than there are hashes.
 #[derive(Clone, Copy)]

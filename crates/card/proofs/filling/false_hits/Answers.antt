@@ -8,11 +8,10 @@ use Rattle.card.proofs.FillLaws.{counts-more, at-most-one}
 use Rattle.card.proofs.filling.false_hits.Needs as need
 
 pub loop-line-again : need.loop-line-again
-loop-line-again c =
-    (
-      counts-more (λ line. not (among line (c .args .inserted .now))) (c .args .hits .now) (c .loop-line .line-index) (c .loop-line .count) (c .from-count .result) (not (c .holds .result)) (omega arith) (c .loop-line .inv .0) (ap not (c .holds .ensures)) (c .from-count .ensures),
-      omega (arith, at-most-one (not (c .holds .result)), c .from-count .ensures),
-    )
+loop-line-again c = (
+  counts-more (λ line. not (among line (c .args .inserted .now))) (c .args .hits .now) (c .loop-line .line-index) (c .loop-line .count) (c .from-count .result) (not (c .holds .result)) (omega arith) (c .loop-line .inv .0) (ap not (c .holds .ensures)) (c .from-count .ensures),
+  omega (arith, at-most-one (not (c .holds .result)), c .from-count .ensures),
+)
 
 pub returns : need.returns
 returns c =

@@ -13,8 +13,7 @@ pub loop-bit-again : need.loop-bit-again
 loop-bit-again g c =
     let words = c .args .register .now .words in
     let bit = c .loop-bit .bit in
-    let within = lt-ltb bit (width (g .WORDS)) (c .loop-bit-test .taken) in
-    (
+    let within = lt-ltb bit (width (g .WORDS)) (c .loop-bit-test .taken) in (
       counts-counting (is-set words) bit (c .loop-bit .count) (c .from-count .result) (c .is-set .result) (c .loop-bit .inv .0) (c .is-set .ensures ∙ ap (λ t. t && is-set words bit) within) (c .from-count .ensures),
       omega (arith, at-most-one (c .is-set .result), c .from-count .ensures),
     )

@@ -14,8 +14,7 @@ returns-in-Break-number c =
 
 pub loop-byte-again : need.loop-byte-again
 loop-byte-again c =
-    let came = sym (c .next-digit .ensures) ∙ c .in-Continue-number .was tt in
-    (
+    let came = sym (c .next-digit .ensures) ∙ c .in-Continue-number .was tt in (
       longer-number (c .args .line .now) (c .loop-byte .number) (c .loop-byte .byte-index) (omega arith) (c .loop-byte .inv .0) (c .in-Continue-number .number) came,
       still-small (c .loop-byte .number) (getD (c .args .line .now) (c .loop-byte .byte-index) 0) (c .in-Continue-number .number) came,
     )

@@ -23,8 +23,8 @@ returns g c =
     let fourth = subst (λ h. Sets w s3 (h % width w ∷ []) s4) (c .fourth .ensures) (c .mark-4 .ensures) in
     let some = c .args .self .now .some in
     let sets =
-        sets-then w s0 s1 s4 (line % width w) (b2 ∷ b3 ∷ b4 ∷ []) (c .mark .ensures)
-        (sets-then w s1 s2 s4 b2 (b3 ∷ b4 ∷ []) second (sets-then w s2 s3 s4 b3 (b4 ∷ []) third fourth)) in
+    sets-then w s0 s1 s4 (line % width w) (b2 ∷ b3 ∷ b4 ∷ []) (c .mark .ensures)
+    (sets-then w s1 s2 s4 b2 (b3 ∷ b4 ∷ []) second (sets-then w s2 s3 s4 b3 (b4 ∷ []) third fourth)) in
     record {
       leaves = sets;
       adds = adds-set w s0 (bits-of w line) s4 sets (bits-below w line some);

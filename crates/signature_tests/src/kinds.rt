@@ -1,0 +1,156 @@
+use line_list::LineList;
+use line_list::LineListSignature;
+use register::Register;
+use register::Register128;
+use register::Register1024;
+use register::RegisterSignature;
+use signature::Signature;
+use signature::both::Both;
+use signature::both::BothSignature;
+use signature::coarse::Coarse;
+use signature::coarse::CoarseSignature;
+use single_bit::SingleBit;
+use single_bit::SingleBitSignature;
+use std::test::*;
+
+// These bits are set, and no others.
+fn has_just<const WORDS: usize>(register: &Register<WORDS>, bits: &[u16]) -> bool {
+    for bit in 0..64 * WORDS {
+        let bit = bit as u16;
+        if register.is_set(bit) != bits.contains(&bit) {
+            return false;
+        }
+    }
+    true
+}
+
+// Of the lines below 65,535, just these hit.
+fn hits_just<S: Signature>(signature: &S, lines: &[u16]) -> bool {
+    for line in 0..u16::MAX {
+        if signature.hit(line) != lines.contains(&line) {
+            return false;
+        }
+    }
+    true
+}
+
+fn hits_everywhere<S: Signature>(signature: &S) -> bool {
+    for line in 0..u16::MAX {
+        if !signature.hit(line) {
+            return false;
+        }
+    }
+    true
+}
+
+#[test]
+fn line_1_sets_its_bits() -> Result<(), Fail> {
+    let mut wide = Register1024::new();
+    let mut narrow = Register128::new();
+    wide.insert(1);
+    narrow.insert(1);
+    check(has_just(&wide, &[0, 1, 32, 512]))?;
+    check(has_just(&narrow, &[0, 1, 32]))
+}
+
+#[test]
+fn line_3_sets_its_bits() -> Result<(), Fail> {
+    let mut wide = Register1024::new();
+    let mut narrow = Register128::new();
+    wide.insert(3);
+    narrow.insert(3);
+    check(has_just(&wide, &[0, 3, 48, 576]))?;
+    check(has_just(&narrow, &[0, 3, 48, 64]))
+}
+
+#[test]
+fn a_narrow_register_hits_falsely() -> Result<(), Fail> {
+    let mut narrow = Register128::new();
+    narrow.insert(128);
+    check(has_just(&narrow, &[0, 16]))?;
+    check(narrow.hit(0))?;
+    check(!narrow.hit(1))?;
+    narrow.reset();
+    check(has_just(&narrow, &[]))
+}
+
+#[test]
+fn both_hits_where_both_hit() -> Result<(), Fail> {
+    let mut both = Both {
+        first: Register128::new(),
+        second: LineList::new(),
+    };
+    both.insert(128);
+    check(hits_just(&both, &[128]))?;
+    both.reset();
+    check(hits_just(&both, &[]))
+}
+
+#[test]
+fn a_list_overflows_at_the_17th_line() -> Result<(), Fail> {
+    let lines = [
+        0,
+        7,
+        1,
+        65534,
+        8,
+        16,
+        32,
+        64,
+        128,
+        256,
+        512,
+        1024,
+        2048,
+        4096,
+        8192,
+        9,
+    ];
+    let mut list = LineList::new();
+    for line in lines {
+        list.insert(line);
+        list.insert(7);
+    }
+    check(hits_just(&list, &lines))?;
+    list.insert(65535);
+    check(hits_everywhere(&list))?;
+    list.reset();
+    check(hits_just(&list, &[]))
+}
+
+#[test]
+fn coarse_hits_on_groups_of_four() -> Result<(), Fail> {
+    let mut coarse = Coarse {
+        below: LineList::new(),
+    };
+    coarse.insert(5);
+    check(hits_just(&coarse, &[4, 5, 6, 7]))
+}
+
+#[test]
+fn a_pile_is_a_signature() -> Result<(), Fail> {
+    let mut pile = Coarse {
+        below: Both {
+            first: Both {
+                first: SingleBit::new(),
+                second: Register1024::new(),
+            },
+            second: Coarse {
+                below: LineList::new(),
+            },
+        },
+    };
+    check(hits_just(&pile, &[]))?;
+    pile.insert(21);
+    check(hits_just(&pile, &[20, 21, 22, 23]))
+}
+
+#[test]
+fn a_single_bit_hits_everywhere_once_told() -> Result<(), Fail> {
+    let mut bit = SingleBit::new();
+    check(hits_just(&bit, &[]))?;
+    bit.insert(40);
+    check(hits_everywhere(&bit))?;
+    bit.reset();
+    check(hits_just(&bit, &[]))
+}

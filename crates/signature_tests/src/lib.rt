@@ -1,0 +1,5 @@
+// Examples that every kind must give, run as tests.
+#[cfg(test)]
+mod kinds;
+#[cfg(test)]
+mod texts;
