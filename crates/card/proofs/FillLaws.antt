@@ -8,7 +8,7 @@ use lib.ListN.{length, getD, take, drop}
 use mir.Val.{boolByte}
 use Rattle.std.specs.Iters.{counting}
 use Rattle.std.specs.shelf.Lists.{kept-by, countBy}
-use Rattle.std.proofs.shelf.Counted.{kept-by-map-counting-more, sumBy-map-counting-more}
+use Rattle.std.proofs.shelf.Counted.{kept-by-map-counting-more}
 use Rattle.std.proofs.shelf.Lists.{drop-more, drop-all, map-id}
 use Rattle.std.proofs.shelf.Sums.{sumBy-more}
 use Rattle.signature.specs.Meaning.{Inserted}
@@ -43,10 +43,3 @@ bit-of false = refl
 pub counts-more : (p : ℕ → Bool) (xs : List ℕ) (i before more : ℕ) (t : Bool) → i < length xs → before ≡ countBy p (take i xs) → t ≡ p (getD xs i 0) → more ≡ boolByte t → before + more ≡ countBy p (take (i + 1) xs)
 counts-more p xs i before more t inside so-far tested e =
     (λ j. so-far j + (e ∙ bit-of t ∙ ap (λ u. cond u 1 0) tested) j) ∙ sym (sumBy-more (λ x. cond (p x) 1 0) xs i 0 inside)
-
-pub counts-counting : (p : ℕ → Bool) (n before more : ℕ) (t : Bool) → before ≡ countBy p (counting 0 n) → t ≡ p n → more ≡ boolByte t → before + more ≡ countBy p (counting 0 (n + 1))
-counts-counting p n before more t so-far tested e =
-    let same : (k : ℕ) → countBy p (map (λ x. x) (counting 0 k)) ≡ countBy p (counting 0 k) = λ k. ap (countBy p) (map-id (counting 0 k)) in
-    (λ j. (so-far ∙ sym (same n)) j + (e ∙ bit-of t ∙ ap (λ u. cond u 1 0) tested) j)
-    ∙ sym (sumBy-map-counting-more (λ x. cond (p x) 1 0) (λ x. x) 0 n n (omega arith))
-    ∙ same (n + 1)

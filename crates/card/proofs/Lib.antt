@@ -1,3 +1,2 @@
 mod FillLaws
 mod ListingLaws
-mod TextLaws

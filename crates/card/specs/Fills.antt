@@ -7,7 +7,6 @@ use Rattle.std.specs.Iters.{counting}
 use Rattle.std.specs.shelf.Lists.{countBy, kept-by}
 use Rattle.signature.specs.Meaning.{Inserted}
 use Rattle.signature.specs.Members.{among}
-use Rattle.register.specs.Packed.{width, is-set}
 
 -- the lines were inserted into s, one after the other and nothing else, and left t
 abbrev pub Filled : {S : Type 0} (has : S → ℕ → Bool) (inserts : S → ℕ → S → Type 0) → S → List ℕ → S → Type 0
@@ -25,7 +24,3 @@ ascending-of end numbers = kept-by (λ n. among n numbers) (counting 0 end)
 -- how many of the hits were never inserted
 abbrev pub never-inserted : List ℕ → List ℕ → ℕ
 never-inserted inserted hits = countBy (λ line. not (among line inserted)) hits
-
--- how many bits of a register of so many words are set
-abbrev pub bits-set : ℕ → List ℕ → ℕ
-bits-set count words = countBy (is-set words) (counting 0 (width count))

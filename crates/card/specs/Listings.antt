@@ -5,8 +5,8 @@ use Prim.Native.Nat.{ℕ}
 use lib.Chars.{codes}
 use Rattle.std.specs.Joined.{joined}
 use Rattle.std.specs.Written.{decimal}
-use Rattle.register.specs.Packed.{width, bits-of}
-use Rattle.card.specs.Fills.{hitting, never-inserted, ascending-of, bits-set}
+use Rattle.register.specs.Packed.{bits-of}
+use Rattle.card.specs.Fills.{hitting, never-inserted, ascending-of}
 
 -- a number in decimal, behind a space
 abbrev pub after-space : ℕ → List ℕ
@@ -34,11 +34,3 @@ hits-text name hits false = name ++ (codes ": hits " ++ (hits ++ (codes ", " ++ 
 -- the same of a signature by what it has, and the lines that were inserted
 abbrev pub summary-text : List ℕ → (ℕ → Bool) → List ℕ → List ℕ
 summary-text name has inserted = hits-text name (spaced-text (hitting has)) (never-inserted inserted (hitting has))
-
--- how many of a register's bits are set
-abbrev pub bits-text : ℕ → ℕ → List ℕ
-bits-text set all = codes ", " ++ (decimal set ++ (codes " of " ++ (decimal all ++ codes " bits set")))
-
--- the same of a register of so many words
-abbrev pub fullness-text : ℕ → List ℕ → List ℕ
-fullness-text count words = bits-text (bits-set count words) (width count)

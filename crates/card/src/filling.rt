@@ -4,9 +4,8 @@ ghost use mathlib.Core.Bool.{cond};
 ghost use mathlib.Core.List.{[], _∷_, _++_};
 ghost use Rattle.std.specs.Of.Vec.{vec-items};
 ghost use Rattle.std.specs.Vec.{made};
-ghost use Rattle.card.specs.Fills.{Filled, hitting, never-inserted, ascending-of, bits-set};
+ghost use Rattle.card.specs.Fills.{Filled, hitting, never-inserted, ascending-of};
 use line_list::holds;
-use register::Register;
 use signature::Signature;
 use std::alloc::AllocError;
 use std::alloc::Global;
@@ -61,15 +60,4 @@ pub(crate) fn ascending(heap: Global, numbers: &[u16], end: u16) -> Result<Vec<u
         keep_if(&mut found, number, holds(numbers, number))?;
     }
     Ok(found)
-}
-
-// How many bits of a register are set.
-pub(crate) fn set_bits<const WORDS: usize>(register: &Register<WORDS>) -> usize
-    ensures { λ r. ⌜ r ≡ bits-set WORDS (now (register .entry) .words) ⌝ }
-{
-    let mut count = 0;
-    for bit in 0..64 * WORDS {
-        count += usize::from(register.is_set(bit as u16));
-    }
-    count
 }

@@ -1,4 +1,3 @@
-// What the punch program reads, does and reports.
+// Fills a signature of any kind, and writes the listing.
 mod filling;
 pub mod listing;
-pub mod reading;

@@ -5,14 +5,12 @@ ghost use Rattle.std.specs.Joined.{joined};
 ghost use Rattle.std.specs.Of.String.{string-bytes};
 ghost use Rattle.std.specs.Vec.{made};
 ghost use Rattle.std.specs.Written.{decimal};
-ghost use Rattle.card.specs.Listings.{after-space, spaced-text, sets-text, insertion-text, hits-text, summary-text, bits-text, fullness-text};
+ghost use Rattle.card.specs.Listings.{after-space, spaced-text, sets-text, insertion-text, hits-text, summary-text};
 ghost use Rattle.card.specs.Fills.{Filled, ascending-of};
 use crate::filling::ascending;
 use crate::filling::false_hits;
 use crate::filling::fill;
 use crate::filling::hits;
-use crate::filling::set_bits;
-use register::Register;
 use register::Register128;
 use register::Register1024;
 use signature::Signature;
@@ -100,20 +98,4 @@ pub fn summary<S: Signature>(
     let found = hits(heap, signature)?;
     let shown = spaced(heap, &found)?;
     summary_line(heap, name, shown.as_str(), false_hits(&found, lines))
-}
-
-// How full a register is, to be put behind its summary.
-pub fn fullness<const WORDS: usize>(
-    heap: Global,
-    register: &Register<WORDS>,
-) -> Result<String, AllocError>
-    ensures { λ r. ⌜ made r (λ s. string-bytes s ≡ fullness-text WORDS (now (register .entry) .words)) ⌝ }
-{
-    fullness_line(heap, set_bits(register), 64 * WORDS)
-}
-
-fn fullness_line(heap: Global, set: usize, width: usize) -> Result<String, AllocError>
-    ensures { λ r. ⌜ made r (λ s. string-bytes s ≡ bits-text set width) ⌝ }
-{
-    format!(heap, ", {set} of {width} bits set")
 }

@@ -1,10 +1,9 @@
 // Punches a card: inserts the lines of standard input into a signature of each kind, and prints what became of them.
-use card::listing::fullness;
 use card::listing::insertion;
 use card::listing::summary;
-use card::reading::read;
 use line_list::LineList;
 use line_list::LineListSignature;
+use line_text::read;
 use register::Register;
 use register::Register128;
 use register::Register1024;
@@ -32,8 +31,9 @@ fn show_register<const WORDS: usize>(
     lines: &[u16],
 ) -> Result<(), AnyError> {
     let hits = summary(rt.alloc(), name, &mut register, lines)?;
-    let full = fullness(rt.alloc(), &register)?;
-    println!(rt, "{hits}{full}")?;
+    let ones = register.ones();
+    let width = 64 * WORDS;
+    println!(rt, "{hits}, {ones} of {width} bits set")?;
     Ok(())
 }
 

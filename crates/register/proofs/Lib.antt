@@ -1,3 +1,4 @@
-mod Permuting
 mod BitLaws
+mod OnesLaws
 mod PackedLaws
+mod Permuting

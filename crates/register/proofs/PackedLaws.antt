@@ -14,7 +14,7 @@ use Rattle.std.proofs.shelf.Lists.{getD-set-same, getD-set-other, getD-replicat
 use Rattle.std.proofs.shelf.Elements.{all-map, all-weaker, all-from-getD}
 use Rattle.std.proofs.shelf.Tests.{eq-eqb, ne-eqb, cases-eq, and-left, and-parts, and-from, or-left, or-right}
 use Rattle.std.specs.shelf.Lists.{All}
-use Rattle.register.specs.Hashes.{bit, hashes}
+use Rattle.register.specs.Hashes.{bit-of, hashes}
 use Rattle.signature.specs.Members.{among}
 use Rattle.register.specs.Packed.{width, is-set, all-set, bits-of, Cleared, Sets}
 use Rattle.register.proofs.BitLaws.{bit-or, bit-pow-same, bit-pow-other}
@@ -27,36 +27,36 @@ abbrev pub marked : List ℕ → ℕ → ℕ
 marked words b = bitOr (getD words (b / 64) 0) (2 ^ (b % 64))
 
 module _ (words : List ℕ) (b : ℕ) (inside : b / 64 < length words) where
-  bit-marked : (i : ℕ) → bit (marked words b) i ≡ bitOr (bit (getD words (b / 64) 0) i) (bit (2 ^ (b % 64)) i)
+  bit-marked : (i : ℕ) → bit-of (marked words b) i ≡ bitOr (bit-of (getD words (b / 64) 0) i) (bit-of (2 ^ (b % 64)) i)
   bit-marked i = bit-or (getD words (b / 64) 0) (2 ^ (b % 64)) i
 
   other-word : (k : ℕ) → (k / 64 ≡ b / 64 → ⊥) → is-set (set words (b / 64) (marked words b)) k ≡ (is-set words k || eqb k b)
   other-word k apart =
       let ne : k ≡ b → ⊥ = λ e. apart (ap (λ n. n / 64) e) in
-      ap (λ n. eqb (bit n (k % 64)) 1) (getD-set-other words (b / 64) (k / 64) (marked words b) 0 apart)
+      ap (λ n. eqb (bit-of n (k % 64)) 1) (getD-set-other words (b / 64) (k / 64) (marked words b) 0 apart)
       ∙ sym (ap (λ t. is-set words k || t) (ne-eqb k b ne) ∙ or-false (is-set words k))
 
-  same-word : (k : ℕ) → k / 64 ≡ b / 64 → is-set (set words (b / 64) (marked words b)) k ≡ eqb (bitOr (bit (getD words (k / 64) 0) (k % 64)) (bit (2 ^ (b % 64)) (k % 64))) 1
+  same-word : (k : ℕ) → k / 64 ≡ b / 64 → is-set (set words (b / 64) (marked words b)) k ≡ eqb (bitOr (bit-of (getD words (k / 64) 0) (k % 64)) (bit-of (2 ^ (b % 64)) (k % 64))) 1
   same-word k same =
-      ap (λ n. eqb (bit (getD (set words (b / 64) (marked words b)) n 0) (k % 64)) 1) same
-      ∙ ap (λ n. eqb (bit n (k % 64)) 1) (getD-set-same words (b / 64) (marked words b) 0 inside)
+      ap (λ n. eqb (bit-of (getD (set words (b / 64) (marked words b)) n 0) (k % 64)) 1) same
+      ∙ ap (λ n. eqb (bit-of n (k % 64)) 1) (getD-set-same words (b / 64) (marked words b) 0 inside)
       ∙ ap (λ n. eqb n 1) (bit-marked (k % 64))
-      ∙ ap (λ n. eqb (bitOr (bit (getD words n 0) (k % 64)) (bit (2 ^ (b % 64)) (k % 64))) 1) (sym same)
+      ∙ ap (λ n. eqb (bitOr (bit-of (getD words n 0) (k % 64)) (bit-of (2 ^ (b % 64)) (k % 64))) 1) (sym same)
 
   at-bit : (k : ℕ) → k / 64 ≡ b / 64 → k % 64 ≡ b % 64 → is-set (set words (b / 64) (marked words b)) k ≡ (is-set words k || eqb k b)
   at-bit k word place =
       let e : k ≡ b = omega arith in
       same-word k word
-      ∙ ap (λ n. eqb (bitOr (bit (getD words (k / 64) 0) (k % 64)) n) 1) (ap (λ n. bit (2 ^ (b % 64)) n) place ∙ bit-pow-same (b % 64))
-      ∙ ap (λ n. eqb n 1) (or-one (bit (getD words (k / 64) 0) (k % 64)) (mod-below (getD words (k / 64) 0 / 2 ^ (k % 64)) 2 (omega arith)))
+      ∙ ap (λ n. eqb (bitOr (bit-of (getD words (k / 64) 0) (k % 64)) n) 1) (ap (λ n. bit-of (2 ^ (b % 64)) n) place ∙ bit-pow-same (b % 64))
+      ∙ ap (λ n. eqb n 1) (or-one (bit-of (getD words (k / 64) 0) (k % 64)) (mod-below (getD words (k / 64) 0 / 2 ^ (k % 64)) 2 (omega arith)))
       ∙ sym (ap (λ t. is-set words k || t) (eq-eqb k b e) ∙ or-true (is-set words k))
 
   beside-bit : (k : ℕ) → k / 64 ≡ b / 64 → (k % 64 ≡ b % 64 → ⊥) → is-set (set words (b / 64) (marked words b)) k ≡ (is-set words k || eqb k b)
   beside-bit k word apart =
       let ne : k ≡ b → ⊥ = λ e. apart (ap (λ n. n % 64) e) in
       same-word k word
-      ∙ ap (λ n. eqb (bitOr (bit (getD words (k / 64) 0) (k % 64)) n) 1) (bit-pow-other (b % 64) (k % 64) apart)
-      ∙ ap (λ n. eqb n 1) (or-zero-r (bit (getD words (k / 64) 0) (k % 64)))
+      ∙ ap (λ n. eqb (bitOr (bit-of (getD words (k / 64) 0) (k % 64)) n) 1) (bit-pow-other (b % 64) (k % 64) apart)
+      ∙ ap (λ n. eqb n 1) (or-zero-r (bit-of (getD words (k / 64) 0) (k % 64)))
       ∙ sym (ap (λ t. is-set words k || t) (ne-eqb k b ne) ∙ or-false (is-set words k))
 
   pub one-set : (k : ℕ) → is-set (set words (b / 64) (marked words b)) k ≡ (is-set words k || (eqb k b || false))
@@ -66,7 +66,7 @@ module _ (words : List ℕ) (b : ℕ) (inside : b / 64 < length words) where
 
 -- where every word is 0, no bit is set
 none-in : (words : List ℕ) (k : ℕ) → getD words (k / 64) 0 ≡ 0 → is-set words k ≡ false
-none-in words k e = ap (λ n. eqb (bit n (k % 64)) 1) e ∙ ap (λ n. eqb (n % 2) 1) (zero-div (2 ^ (k % 64)))
+none-in words k e = ap (λ n. eqb (bit-of n (k % 64)) 1) e ∙ ap (λ n. eqb (n % 2) 1) (zero-div (2 ^ (k % 64)))
 
 pub cleared : (count : ℕ) (words : List ℕ) → words ≡ replicate count 0 → Cleared count words
 cleared count words e k h =

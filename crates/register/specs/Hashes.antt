@@ -4,13 +4,13 @@ use Prim.Native.Nat.{ℕ, _+_, _-_, _*_, _/_, _%_, _^_}
 use Rattle.std.specs.Iters.{counting}
 
 -- bit i of n, which is 0 or 1
-abbrev pub bit : ℕ → ℕ → ℕ
-bit n i = n / 2 ^ i % 2
+abbrev pub bit-of : ℕ → ℕ → ℕ
+bit-of n i = n / 2 ^ i % 2
 
 -- the number whose bit i is the bit of the line that entry i of the table names
 unfoldable pub permuted : List ℕ → ℕ → ℕ
 permuted [] line = 0
-permuted (t ∷ table) line = bit line t + 2 * permuted table line
+permuted (t ∷ table) line = bit-of line t + 2 * permuted table line
 
 -- bit i comes from bit 15 − i: the sixteen bits in reverse
 abbrev pub mirror : List ℕ

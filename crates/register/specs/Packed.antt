@@ -5,7 +5,9 @@ use mathlib.Core.List.{List, [], _∷_, map}
 use Prim.Native.Nat.{ℕ, _*_, _/_, _%_, _<_}
 use lib.Dec.{eqb}
 use lib.ListN.{getD}
-use Rattle.register.specs.Hashes.{bit, hashes}
+use Rattle.std.specs.Iters.{counting}
+use Rattle.std.specs.shelf.Lists.{countBy}
+use Rattle.register.specs.Hashes.{bit-of, hashes}
 use Rattle.signature.specs.Members.{among}
 
 -- how many bits there are in so many words
@@ -14,12 +16,16 @@ width count = 64 * count
 
 -- bit k is set
 abbrev pub is-set : List ℕ → ℕ → Bool
-is-set words k = eqb (bit (getD words (k / 64) 0) (k % 64)) 1
+is-set words k = eqb (bit-of (getD words (k / 64) 0) (k % 64)) 1
 
 -- each of these bits is set
 abbrev pub all-set : List ℕ → List ℕ → Bool
 all-set words [] = true
 all-set words (k ∷ ks) = is-set words k && all-set words ks
+
+-- how many bits are set
+abbrev pub ones-in : ℕ → List ℕ → ℕ
+ones-in count words = countBy (is-set words) (counting 0 (width count))
 
 -- the bits of a line: its four hashes, each modulo the register's width
 abbrev pub bits-of : ℕ → ℕ → List ℕ

@@ -1,12 +1,13 @@
 // A register of bits: a line sets four of them, and hits where all its four are set.
 ghost use mathlib.Core.Path.{_≡_};
 ghost use Prim.Native.Nat.{_%_, _^_, _<_, _≤_};
-ghost use mathlib.Core.Bool.{_&&_};
+ghost use mathlib.Core.Bool.{cond, _&&_};
 ghost use mathlib.Core.List.{[], _∷_};
 ghost use lib.Bits.{bitOr};
-ghost use lib.Dec.{ltb};
+ghost use lib.Dec.{eqb, ltb};
 ghost use lib.ListN.{replicate};
-ghost use Rattle.register.specs.Packed.{width, is-set, all-set, bits-of, Cleared, Sets};
+ghost use Rattle.register.specs.Hashes.{bit-of};
+ghost use Rattle.register.specs.Packed.{width, is-set, all-set, ones-in, bits-of, Cleared, Sets};
 use signature::Signature;
 
 mod hash;
@@ -36,6 +37,13 @@ fn with_bit(word: u64, place: u16) -> u64
     word | (1 << place)
 }
 
+fn has_bit(word: u64, place: u16) -> bool
+    requires { ⌜ place < 64 ⌝ }
+    ensures { λ r. ⌜ r ≡ eqb (bit-of word place) 1 ⌝ }
+{
+    (word >> place) % 2 == 1
+}
+
 impl Register<16> {
     pub fn new() -> Self
         ensures { λ r. ⌜ Cleared 16 (r .words) ⌝ }
@@ -57,7 +65,7 @@ impl<const WORDS: usize> Register<WORDS> {
     pub fn is_set(&self, bit: u16) -> bool
         ensures { λ r. ⌜ r ≡ (ltb bit (width WORDS) && is-set (now (self .entry) .words) bit) ⌝ }
     {
-        (bit as usize) < 64 * WORDS && (self.words[(bit / 64) as usize] >> (bit % 64)) % 2 == 1
+        (bit as usize) < 64 * WORDS && has_bit(self.words[(bit / 64) as usize], bit % 64)
     }
 
     // The bits that a line sets, one for each hash.
@@ -70,6 +78,24 @@ impl<const WORDS: usize> Register<WORDS> {
             self.place(hash::third(line)),
             self.place(hash::fourth(line)),
         ]
+    }
+
+    // How many bits are set.
+    pub fn ones(&self) -> usize
+        ensures { λ r. ⌜ r ≡ ones-in WORDS (now (self .entry) .words) ⌝ }
+    {
+        let mut count = 0;
+        for bit in 0..64 * WORDS {
+            count += self.one_if(bit as u16);
+        }
+        count
+    }
+
+    fn one_if(&self, bit: u16) -> usize
+        requires { ⌜ bit < width WORDS ⌝ }
+        ensures { λ r. ⌜ r ≡ cond (is-set (now (self .entry) .words) bit) 1 0 ⌝ }
+    {
+        if self.is_set(bit) { 1 } else { 0 }
     }
 
     // The bit that a hash names.
@@ -91,7 +117,7 @@ impl<const WORDS: usize> Register<WORDS> {
         ensures { λ r. ⌜ r ≡ is-set (now (self .entry) .words) (hash % width WORDS) ⌝ }
     {
         let bit = self.place(hash);
-        (self.words[(bit / 64) as usize] >> (bit % 64)) % 2 == 1
+        has_bit(self.words[(bit / 64) as usize], bit % 64)
     }
 }
 

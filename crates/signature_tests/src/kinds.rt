@@ -44,23 +44,20 @@ fn hits_everywhere<S: Signature>(signature: &S) -> bool {
 }
 
 #[test]
-fn line_1_sets_its_bits() -> Result<(), Fail> {
+fn a_line_sets_its_bits_and_no_others() -> Result<(), Fail> {
     let mut wide = Register1024::new();
     let mut narrow = Register128::new();
     wide.insert(1);
     narrow.insert(1);
     check(has_just(&wide, &[0, 1, 32, 512]))?;
-    check(has_just(&narrow, &[0, 1, 32]))
-}
-
-#[test]
-fn line_3_sets_its_bits() -> Result<(), Fail> {
-    let mut wide = Register1024::new();
-    let mut narrow = Register128::new();
+    check(has_just(&narrow, &[0, 1, 32]))?;
+    wide.reset();
+    narrow.reset();
     wide.insert(3);
     narrow.insert(3);
     check(has_just(&wide, &[0, 3, 48, 576]))?;
-    check(has_just(&narrow, &[0, 3, 48, 64]))
+    check(has_just(&narrow, &[0, 3, 48, 64]))?;
+    check(wide.ones() == 4)
 }
 
 #[test]

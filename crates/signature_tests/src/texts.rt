@@ -1,4 +1,4 @@
-use card::reading::read;
+use line_text::read;
 use std::test::*;
 
 fn reads(

@@ -3,8 +3,8 @@ use mathlib.Core.Path.{_≡_}
 use mathlib.Core.List.{_++_}
 use lib.ListN.{length, drop}
 use Rattle.std.specs.Of.Vec.{vec-items}
-use Rattle.card.specs.Texts.{lines-of, numbers-in, malformed-from}
-use Rattle.card.proofs.reading.read.Given as given
+use Rattle.line_text.specs.Texts.{lines-of, numbers-in, malformed-from}
+use Rattle.line_text.proofs.read.Given as given
 
 -- what was read and what is left are the whole
 abbrev pub Inv-loop-start : given.InvT-loop-start

@@ -1,7 +1,7 @@
 use native.Mathlib.Omega.{arith}
 use lib.ListN.{length}
-use Rattle.card.proofs.TextLaws.{first-line}
-use Rattle.card.proofs.reading.line_length.Needs as need
+use Rattle.line_text.proofs.TextLaws.{first-line}
+use Rattle.line_text.proofs.line_length.Needs as need
 
 pub returns-then-byte-eq-NEWLINE : need.returns-then-byte-eq-NEWLINE
 returns-then-byte-eq-NEWLINE c =

@@ -3,8 +3,8 @@ use native.Mathlib.Omega.{arith}
 use Prim.Native.Nat.{_<_}
 use lib.ListN.{length, getD}
 use Rattle.std.proofs.shelf.Tests.{eqb-false}
-use Rattle.card.proofs.TextLaws.{no-number, longer-number, still-small, whole-number}
-use Rattle.card.proofs.reading.number.Needs as need
+use Rattle.line_text.proofs.TextLaws.{no-number, longer-number, still-small, whole-number}
+use Rattle.line_text.proofs.number.Needs as need
 
 pub returns-in-Break-number : need.returns-in-Break-number
 returns-in-Break-number c =

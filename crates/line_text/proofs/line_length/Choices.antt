@@ -1,7 +1,7 @@
 use Prim.Native.Nat.{ℕ, _<_}
 use mathlib.Core.Path.{_≡_}
 use lib.ListN.{getD}
-use Rattle.card.proofs.reading.line_length.Given as given
+use Rattle.line_text.proofs.line_length.Given as given
 
 -- no newline so far
 abbrev pub Inv-loop-i : given.InvT-loop-i

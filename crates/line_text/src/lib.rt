@@ -5,7 +5,7 @@ ghost use Prim.Native.Nat.{_+_, _<_, _≤_};
 ghost use lib.ListN.{length, take, drop};
 ghost use Rattle.std.specs.Of.Vec.{vec-items};
 ghost use Rattle.std.specs.Vec.{made};
-ghost use Rattle.card.specs.Texts.{one-more, number-of, lines-of, numbers-in, malformed-from};
+ghost use Rattle.line_text.specs.Texts.{one-more, number-of, lines-of, numbers-in, malformed-from};
 use std::alloc::AllocError;
 use std::alloc::Global;
 

@@ -7,9 +7,9 @@ use Rattle.std.proofs.Told.{chosen}
 use Rattle.std.proofs.shelf.Lists.{drop-all}
 use Rattle.std.specs.Of.Vec.{vec-items}
 use Rattle.std.specs.Results.{isOk}
-use Rattle.card.specs.Texts.{lines-of, numbers-in, malformed-from}
-use Rattle.card.proofs.TextLaws.{numbers-more, place-more, numbers-end, place-here}
-use Rattle.card.proofs.reading.read.Needs as need
+use Rattle.line_text.specs.Texts.{lines-of, numbers-in, malformed-from}
+use Rattle.line_text.proofs.TextLaws.{numbers-more, place-more, numbers-end, place-here}
+use Rattle.line_text.proofs.read.Needs as need
 
 pub returns-in-rest : need.returns-in-rest
 returns-in-rest c =

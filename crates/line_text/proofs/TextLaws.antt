@@ -11,7 +11,7 @@ use Rattle.std.specs.declared.option.Option.{Option}
 use Rattle.std.specs.declared.option.Option.the-variants.{Some, None}
 use Rattle.std.proofs.shelf.Lists.{at-drop-more, at-drop-all, drop-drop, take-rest, length-drop}
 use Rattle.std.proofs.shelf.Tests.{ltb-true, eq-eqb, ne-eqb, cond-true, cond-false}
-use Rattle.card.specs.Texts.{in-front, lines-of, digit, grows, one-more, number-of, digits-from, and-those, numbers-in, or-later, malformed-from}
+use Rattle.line_text.specs.Texts.{in-front, lines-of, digit, grows, one-more, number-of, digits-from, and-those, numbers-in, or-later, malformed-from}
 
 pub first-line : (text : List ℕ) (r : ℕ) → 0 < length text → r ≤ length text → ((k : ℕ) → k < r → getD text k 0 ≡ 10 → ⊥) → (r < length text → getD text r 0 ≡ 10) → lines-of text ≡ take r text ∷ lines-of (drop (r + 1) text)
 first-line [] r some within before here = absurd (omega arith)

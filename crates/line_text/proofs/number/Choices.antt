@@ -1,8 +1,8 @@
 use Prim.Native.Nat.{_<_}
 use mathlib.Core.Path.{_≡_}
 use lib.ListN.{drop}
-use Rattle.card.specs.Texts.{digits-from}
-use Rattle.card.proofs.reading.number.Given as given
+use Rattle.line_text.specs.Texts.{digits-from}
+use Rattle.line_text.proofs.number.Given as given
 
 -- the bytes that are left make the same number
 abbrev pub Inv-loop-byte : given.InvT-loop-byte
