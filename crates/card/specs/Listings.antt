@@ -5,7 +5,6 @@ use Prim.Native.Nat.{ℕ}
 use lib.Chars.{codes}
 use Rattle.std.specs.Joined.{joined}
 use Rattle.std.specs.Written.{decimal}
-use Rattle.register.specs.Packed.{bits-of}
 use Rattle.card.specs.Fills.{hitting, never-inserted, ascending-of}
 
 -- a number in decimal, behind a space
@@ -22,10 +21,9 @@ abbrev pub sets-text : ℕ → List ℕ → List ℕ → List ℕ
 sets-text line wide narrow =
     codes "line " ++ (decimal line ++ (codes ": 1024-bit register sets " ++ (wide ++ (codes ", 128-bit register sets " ++ narrow))))
 
--- what the insert of a line sets, each bit once and in ascending order
-abbrev pub insertion-text : ℕ → List ℕ
-insertion-text line =
-    sets-text line (spaced-text (ascending-of 1024 (bits-of 16 line))) (spaced-text (ascending-of 128 (bits-of 2 line)))
+-- the same, given its bits in each: every bit once and in ascending order
+abbrev pub insertion-text : ℕ → List ℕ → List ℕ → List ℕ
+insertion-text line wide narrow = sets-text line (spaced-text (ascending-of 1024 wide)) (spaced-text (ascending-of 128 narrow))
 
 -- the name of a signature, the lines that hit it, and how many of these are false hits
 abbrev pub hits-text : List ℕ → List ℕ → ℕ → List ℕ

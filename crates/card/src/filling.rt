@@ -5,8 +5,8 @@ ghost use mathlib.Core.List.{[], _∷_, _++_};
 ghost use Rattle.std.specs.Of.Vec.{vec-items};
 ghost use Rattle.std.specs.Vec.{made};
 ghost use Rattle.card.specs.Fills.{Filled, hitting, never-inserted, ascending-of};
-use line_list::holds;
 use signature::Signature;
+use signature::members::is_among;
 use std::alloc::AllocError;
 use std::alloc::Global;
 
@@ -46,7 +46,7 @@ pub(crate) fn false_hits(hits: &[u16], inserted: &[u16]) -> usize
 {
     let mut count = 0;
     for line in hits {
-        count += usize::from(!holds(inserted, *line));
+        count += usize::from(!is_among(*line, inserted));
     }
     count
 }
@@ -57,7 +57,7 @@ pub(crate) fn ascending(heap: Global, numbers: &[u16], end: u16) -> Result<Vec<u
 {
     let mut found = Vec::new(heap);
     for number in 0..end {
-        keep_if(&mut found, number, holds(numbers, number))?;
+        keep_if(&mut found, number, is_among(number, numbers))?;
     }
     Ok(found)
 }

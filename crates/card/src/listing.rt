@@ -11,8 +11,6 @@ use crate::filling::ascending;
 use crate::filling::false_hits;
 use crate::filling::fill;
 use crate::filling::hits;
-use register::Register128;
-use register::Register1024;
 use signature::Signature;
 use std::alloc::AllocError;
 use std::alloc::Global;
@@ -59,17 +57,17 @@ fn insertion_line(heap: Global, line: u16, wide: &str, narrow: &str) -> Result<S
     )
 }
 
-// What the insert of a line sets in a register of each width.
+// What the insert of a line sets in the two registers, given its bits in each.
 pub fn insertion(
     heap: Global,
-    wide: &Register1024,
-    narrow: &Register128,
     line: u16,
+    wide_bits: &[u16],
+    narrow_bits: &[u16],
 ) -> Result<String, AllocError>
-    ensures { λ r. ⌜ made r (λ s. string-bytes s ≡ insertion-text line) ⌝ }
+    ensures { λ r. ⌜ made r (λ s. string-bytes s ≡ insertion-text line (now («wide_bits» .entry)) (now («narrow_bits» .entry))) ⌝ }
 {
-    let wide = bits_shown(heap, &wide.bits(line), 1024)?;
-    let narrow = bits_shown(heap, &narrow.bits(line), 128)?;
+    let wide = bits_shown(heap, wide_bits, 1024)?;
+    let narrow = bits_shown(heap, narrow_bits, 128)?;
     insertion_line(heap, line, wide.as_str(), narrow.as_str())
 }
 

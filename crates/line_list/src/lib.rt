@@ -3,9 +3,9 @@ ghost use mathlib.Core.Path.{_≡_};
 ghost use Prim.Native.Nat.{_+_, _<_, _≤_};
 ghost use lib.Dec.{ltb};
 ghost use lib.ListN.{set};
-ghost use Rattle.signature.specs.Members.{among};
 ghost use Rattle.line_list.specs.Lines.{lines-of, no-lines, hits, inserted};
 use signature::Signature;
+use signature::members::is_among;
 
 const ROOM: usize = 16;
 
@@ -15,13 +15,6 @@ pub struct LineList {
     count: usize,
     overflowed: bool,
     ghost room: { count ≤ 16 },
-}
-
-// Whether the line is one of these.
-pub fn holds(lines: &[u16], line: u16) -> bool
-    ensures { λ r. ⌜ r ≡ among line (now (lines .entry)) ⌝ }
-{
-    lines.contains(&line)
 }
 
 impl LineList {
@@ -76,6 +69,6 @@ pub impl Signature for LineList as LineListSignature {
     }
 
     fn hit(&self, line: u16) -> bool {
-        self.overflowed || holds(&self.lines[0..self.count], line)
+        self.overflowed || is_among(line, &self.lines[0..self.count])
     }
 }

@@ -8,18 +8,19 @@ use register::Register;
 use register::Register128;
 use register::Register1024;
 use register::RegisterSignature;
+use signature::Signature;
 use signature::both::Both;
 use signature::both::BothSignature;
 use signature::coarse::Coarse;
 use signature::coarse::CoarseSignature;
-use std::error::AnyError;
+use std::io;
 use std::io::Read;
 
-fn show_insertions(rt: &LibcRuntime, lines: &[u16]) -> Result<(), AnyError> {
+fn show_insertions(rt: &LibcRuntime, lines: &[u16]) -> io::Result<()> {
     let wide = Register1024::new();
     let narrow = Register128::new();
     for line in lines {
-        rt.println(insertion(rt.alloc(), &wide, &narrow, *line)?)?;
+        rt.println(insertion(rt.alloc(), *line, &wide.bits(*line), &narrow.bits(*line))?)?;
     }
     Ok(())
 }
@@ -29,32 +30,34 @@ fn show_register<const WORDS: usize>(
     name: &str,
     mut register: Register<WORDS>,
     lines: &[u16],
-) -> Result<(), AnyError> {
+) -> io::Result<()> {
     let hits = summary(rt.alloc(), name, &mut register, lines)?;
     let ones = register.ones();
     let width = 64 * WORDS;
-    println!(rt, "{hits}, {ones} of {width} bits set")?;
-    Ok(())
+    println!(rt, "{hits}, {ones} of {width} bits set")
 }
 
-fn show_summaries(rt: &LibcRuntime, lines: &[u16]) -> Result<(), AnyError> {
+fn show<S: Signature + Drop>(
+    rt: &LibcRuntime,
+    name: &str,
+    mut signature: S,
+    lines: &[u16],
+) -> io::Result<()> {
+    rt.println(summary(rt.alloc(), name, &mut signature, lines)?)
+}
+
+fn show_summaries(rt: &LibcRuntime, lines: &[u16]) -> io::Result<()> {
     show_register(rt, "1024-bit register", Register1024::new(), lines)?;
     show_register(rt, "128-bit register", Register128::new(), lines)?;
-    let mut list = LineList::new();
-    rt.println(summary(rt.alloc(), "list", &mut list, lines)?)?;
-    let mut both = Both {
-        first: Register128::new(),
-        second: LineList::new(),
-    };
-    rt.println(summary(rt.alloc(), "both", &mut both, lines)?)?;
-    let mut coarse = Coarse {
-        below: LineList::new(),
-    };
-    rt.println(summary(rt.alloc(), "coarse", &mut coarse, lines)?)?;
-    Ok(())
+    show(rt, "list", LineList::new(), lines)?;
+    let first = Register128::new();
+    let second = LineList::new();
+    show(rt, "both", Both { first, second }, lines)?;
+    let below = LineList::new();
+    show(rt, "coarse", Coarse { below }, lines)
 }
 
-fn main(rt: LibcRuntime) -> Result<(), AnyError> {
+fn main(rt: LibcRuntime) -> io::Result<()> {
     let mut text = Vec::new(rt.alloc());
     rt.stdin().read_to_end(&mut text)?;
     let reading = read(rt.alloc(), &text)?;
@@ -62,7 +65,7 @@ fn main(rt: LibcRuntime) -> Result<(), AnyError> {
     match reading.malformed {
         Some(place) => {
             eprintln!(rt, "input line {place} is no number below 65536")?;
-            Err("malformed input".into())
+            Err(io::Error::from(io::ErrorKind::InvalidData))
         }
         None => show_summaries(&rt, &reading.lines),
     }

@@ -1,1 +1,1 @@
-pub mod Contains
+mod Contains

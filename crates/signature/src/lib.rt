@@ -6,6 +6,7 @@ ghost use Rattle.signature.specs.Meaning.{Emptied, Inserted};
 
 pub mod both;
 pub mod coarse;
+pub mod members;
 
 // A set of lines that may hold more than it was told.
 pub trait Signature {

@@ -116,30 +116,20 @@ fn a_list_overflows_at_the_17th_line() -> Result<(), Fail> {
 }
 
 #[test]
-fn coarse_hits_on_groups_of_four() -> Result<(), Fail> {
+fn coarse_hits_on_groups_and_piles() -> Result<(), Fail> {
     let mut coarse = Coarse {
         below: LineList::new(),
     };
     coarse.insert(5);
-    check(hits_just(&coarse, &[4, 5, 6, 7]))
-}
-
-#[test]
-fn a_pile_is_a_signature() -> Result<(), Fail> {
-    let mut pile = Coarse {
-        below: Both {
-            first: Both {
-                first: SingleBit::new(),
-                second: Register1024::new(),
-            },
-            second: Coarse {
-                below: LineList::new(),
-            },
-        },
+    check(hits_just(&coarse, &[4, 5, 6, 7]))?;
+    let first = SingleBit::new();
+    let mut pile = Both {
+        first,
+        second: coarse,
     };
     check(hits_just(&pile, &[]))?;
-    pile.insert(21);
-    check(hits_just(&pile, &[20, 21, 22, 23]))
+    pile.insert(20);
+    check(hits_just(&pile, &[4, 5, 6, 7, 20, 21, 22, 23]))
 }
 
 #[test]

@@ -9,7 +9,7 @@ use Rattle.card.proofs.filling.ascending.Needs as need
 
 pub loop-number-again : need.loop-number-again
 loop-number-again c =
-    keeps-more (λ n. among n (c .args .numbers .now)) (c .loop-number .number) _ _ (c .holds .result) (c .loop-number .inv) (c .holds .ensures) (c .in-Continue-keep-if .ensures tt)
+    keeps-more (λ n. among n (c .args .numbers .now)) (c .loop-number .number) _ _ (c .is-among .result) (c .loop-number .inv) (c .is-among .ensures) (c .in-Continue-keep-if .ensures tt)
 
 pub returns : need.returns
 unfolding ascending-of

@@ -9,8 +9,8 @@ use Rattle.card.proofs.filling.false_hits.Needs as need
 
 pub loop-line-again : need.loop-line-again
 loop-line-again c = (
-  counts-more (λ line. not (among line (c .args .inserted .now))) (c .args .hits .now) (c .loop-line .line-index) (c .loop-line .count) (c .from-count .result) (not (c .holds .result)) (omega arith) (c .loop-line .inv .0) (ap not (c .holds .ensures)) (c .from-count .ensures),
-  omega (arith, at-most-one (not (c .holds .result)), c .from-count .ensures),
+  counts-more (λ line. not (among line (c .args .inserted .now))) (c .args .hits .now) (c .loop-line .line-index) (c .loop-line .count) (c .from-count .result) (not (c .is-among .result)) (omega arith) (c .loop-line .inv .0) (ap not (c .is-among .ensures)) (c .from-count .ensures),
+  omega (arith, at-most-one (not (c .is-among .result)), c .from-count .ensures),
 )
 
 pub returns : need.returns
