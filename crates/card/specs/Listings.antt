@@ -27,7 +27,7 @@ insertion-text line wide narrow = sets-text line (spaced-text (ascending-of 1024
 
 -- the name of a signature, the lines that hit it, and how many of these are false hits
 abbrev pub hits-text : List ℕ → List ℕ → ℕ → List ℕ
-hits-text name hits false = name ++ (codes ": hits " ++ (hits ++ (codes ", " ++ (decimal false ++ codes " false"))))
+hits-text name hits falsely = name ++ (codes ": hits " ++ (hits ++ (codes ", " ++ (decimal falsely ++ codes " false"))))
 
 -- the same of a signature by what it has, and the lines that were inserted
 abbrev pub summary-text : List ℕ → (ℕ → Bool) → List ℕ → List ℕ

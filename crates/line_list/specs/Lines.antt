@@ -15,6 +15,7 @@ pub record Lines : Type 0 where
 abbrev pub lines-of : List ℕ → ℕ → Bool → Lines
 lines-of lines count over = record { held = take count lines; overflowed = over }
 
+-- the list that holds nothing
 abbrev pub no-lines : Lines
 no-lines = record { held = []; overflowed = false }
 
