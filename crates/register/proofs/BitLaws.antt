@@ -7,7 +7,7 @@ use native.Mathlib.Omega.{arith}
 use lib.Bits.{bitOr, or-shr, or-mod, or-zero-r, shifted-even}
 use lib.Pow.{pow-lt, pow-add, shl-shr}
 use Rattle.std.proofs.shelf.Tests.{cases-order}
-use Rattle.register.specs.Hashes.{bit-of}
+use Rattle.line_hash.specs.Hashes.{bit-of}
 
 pub bit-or : (a b i : ℕ) → bit-of (bitOr a b) i ≡ bitOr (bit-of a i) (bit-of b i)
 bit-or a b i = ap (λ n. n % 2) (or-shr a b i) ∙ or-mod (a / 2 ^ i) (b / 2 ^ i) 1

@@ -1,4 +1,3 @@
 mod BitLaws
 mod OnesLaws
 mod PackedLaws
-mod Permuting

@@ -14,7 +14,7 @@ use Rattle.std.proofs.shelf.Lists.{getD-set-same, getD-set-other, getD-replicat
 use Rattle.std.proofs.shelf.Elements.{all-map, all-weaker, all-from-getD}
 use Rattle.std.proofs.shelf.Tests.{eq-eqb, ne-eqb, cases-eq, and-left, and-parts, and-from, or-left, or-right}
 use Rattle.std.specs.shelf.Lists.{All}
-use Rattle.register.specs.Hashes.{bit-of, hashes}
+use Rattle.line_hash.specs.Hashes.{bit-of, hashes}
 use Rattle.signature.specs.Members.{among}
 use Rattle.register.specs.Packed.{width, is-set, all-set, bits-of, Cleared, Sets}
 use Rattle.register.proofs.BitLaws.{bit-or, bit-pow-same, bit-pow-other}

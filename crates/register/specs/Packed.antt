@@ -7,7 +7,7 @@ use lib.Dec.{eqb}
 use lib.ListN.{getD}
 use Rattle.std.specs.Iters.{counting}
 use Rattle.std.specs.shelf.Lists.{countBy}
-use Rattle.register.specs.Hashes.{bit-of, hashes}
+use Rattle.line_hash.specs.Hashes.{bit-of, hashes}
 use Rattle.signature.specs.Members.{among}
 
 -- how many bits there are in so many words

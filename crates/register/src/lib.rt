@@ -6,11 +6,9 @@ ghost use mathlib.Core.List.{[], _∷_};
 ghost use lib.Bits.{bitOr};
 ghost use lib.Dec.{eqb, ltb};
 ghost use lib.ListN.{replicate};
-ghost use Rattle.register.specs.Hashes.{bit-of};
+ghost use Rattle.line_hash.specs.Hashes.{bit-of};
 ghost use Rattle.register.specs.Packed.{width, is-set, all-set, ones-in, bits-of, Cleared, Sets};
 use signature::Signature;
-
-mod hash;
 
 // The bits stand sixty-four to a word; a register has at least one word, and no more bits than there are hashes.
 #[derive(Clone, Copy)]
@@ -74,9 +72,9 @@ impl<const WORDS: usize> Register<WORDS> {
     {
         [
             self.place(line),
-            self.place(hash::second(line)),
-            self.place(hash::third(line)),
-            self.place(hash::fourth(line)),
+            self.place(line_hash::second(line)),
+            self.place(line_hash::third(line)),
+            self.place(line_hash::fourth(line)),
         ]
     }
 
@@ -134,16 +132,16 @@ pub impl<const WORDS: usize> Signature for Register<WORDS> as RegisterSignature 
 
     fn insert(&mut self, line: u16) {
         self.mark(line);
-        self.mark(hash::second(line));
-        self.mark(hash::third(line));
-        self.mark(hash::fourth(line));
+        self.mark(line_hash::second(line));
+        self.mark(line_hash::third(line));
+        self.mark(line_hash::fourth(line));
     }
 
     // The cheap hashes are asked first: most lines miss at one of them.
     fn hit(&self, line: u16) -> bool {
         self.marked(line)
-            && self.marked(hash::second(line))
-            && self.marked(hash::third(line))
-            && self.marked(hash::fourth(line))
+            && self.marked(line_hash::second(line))
+            && self.marked(line_hash::third(line))
+            && self.marked(line_hash::fourth(line))
     }
 }

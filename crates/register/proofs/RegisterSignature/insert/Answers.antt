@@ -1,7 +1,7 @@
 use mathlib.Core.Path.{subst}
 use mathlib.Core.List.{[], _∷_}
 use Prim.Native.Nat.{_%_}
-use Rattle.register.specs.Hashes.{second-hash, third-hash, fourth-hash}
+use Rattle.line_hash.specs.Hashes.{second-hash, third-hash, fourth-hash}
 use Rattle.register.specs.Packed.{width, bits-of, Sets}
 use Rattle.register.proofs.PackedLaws.{sets-then, bits-below, adds-set, keeps-set}
 use Rattle.register.proofs.RegisterSignature.insert.Needs as need

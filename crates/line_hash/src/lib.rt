@@ -2,7 +2,7 @@
 ghost use mathlib.Core.Path.{_≡_};
 ghost use Prim.Native.Nat.{ℕ, _<_};
 ghost use lib.ListN.{getD};
-ghost use Rattle.register.specs.Hashes.{permuted, second-hash, third-hash, fourth-hash};
+ghost use Rattle.line_hash.specs.Hashes.{permuted, second-hash, third-hash, fourth-hash};
 
 // Bit i of the second hash is bit MIRROR[i] of the line: its bits in reverse.
 const MIRROR: [u8; 16] = [15, 14, 13, 12, 11, 10, 9, 8, 7, 6, 5, 4, 3, 2, 1, 0];
@@ -22,19 +22,19 @@ fn permute(table: &[u8; 16], line: u16) -> u16
     hash
 }
 
-pub(crate) fn second(line: u16) -> u16
+pub fn second(line: u16) -> u16
     ensures { λ r. ⌜ r ≡ second-hash line ⌝ }
 {
     permute(&MIRROR, line)
 }
 
-pub(crate) fn third(line: u16) -> u16
+pub fn third(line: u16) -> u16
     ensures { λ r. ⌜ r ≡ third-hash line ⌝ }
 {
     second(line) >> 10
 }
 
-pub(crate) fn fourth(line: u16) -> u16
+pub fn fourth(line: u16) -> u16
     ensures { λ r. ⌜ r ≡ fourth-hash line ⌝ }
 {
     permute(&SPREAD, line)

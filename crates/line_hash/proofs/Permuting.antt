@@ -8,7 +8,7 @@ use lib.Bits.{bitAnd, and-mask}
 use lib.ListN.{length, getD, drop}
 use Rattle.std.proofs.shelf.Bits.{mod-below}
 use Rattle.std.proofs.shelf.Lists.{at-drop-more, at-drop-all}
-use Rattle.register.specs.Hashes.{permuted, bit-of}
+use Rattle.line_hash.specs.Hashes.{permuted, bit-of}
 
 module _ (table : List ℕ) (line : ℕ) (sixteen : length table ≡ 16) where
   pub none-yet : 0 ≡ permuted (drop 16 table) line

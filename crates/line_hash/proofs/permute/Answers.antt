@@ -1,6 +1,6 @@
 use native.Mathlib.Omega.{arith}
-use Rattle.register.proofs.Permuting.{none-yet, one-more, still-fits}
-use Rattle.register.proofs.hash.permute.Needs as need
+use Rattle.line_hash.proofs.Permuting.{none-yet, one-more, still-fits}
+use Rattle.line_hash.proofs.permute.Needs as need
 
 pub loop-i-holds : need.loop-i-holds
 loop-i-holds c = (none-yet (c .args .table .now) (c .args .line) (c .told-table), omega arith)
