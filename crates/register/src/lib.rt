@@ -1,10 +1,10 @@
 // A register of bits: a line sets four of them, and hits where all its four are set.
 ghost use mathlib.Core.Path.{_≡_};
 ghost use Prim.Native.Nat.{_%_, _^_, _<_, _≤_};
-ghost use mathlib.Core.Bool.{cond, _&&_};
+ghost use mathlib.Core.Bool.{cond};
 ghost use mathlib.Core.List.{[], _∷_};
 ghost use lib.Bits.{bitOr};
-ghost use lib.Dec.{eqb, ltb};
+ghost use lib.Dec.{eqb};
 ghost use lib.ListN.{replicate};
 ghost use Rattle.line_hash.specs.Hashes.{bit-of};
 ghost use Rattle.register.specs.Packed.{width, is-set, all-set, ones-in, bits-of, Cleared, Sets};
@@ -59,13 +59,6 @@ impl Register<2> {
 }
 
 impl<const WORDS: usize> Register<WORDS> {
-    // Whether a bit is set; beyond the width none is.
-    pub fn is_set(&self, bit: u16) -> bool
-        ensures { λ r. ⌜ r ≡ (ltb bit (width WORDS) && is-set (now (self .entry) .words) bit) ⌝ }
-    {
-        (bit as usize) < 64 * WORDS && has_bit(self.words[(bit / 64) as usize], bit % 64)
-    }
-
     // The bits that a line sets, one for each hash.
     pub fn bits(&self, line: u16) -> [u16; 4]
         ensures { λ r. ⌜ r ≡ bits-of WORDS line ⌝ }
@@ -93,7 +86,11 @@ impl<const WORDS: usize> Register<WORDS> {
         requires { ⌜ bit < width WORDS ⌝ }
         ensures { λ r. ⌜ r ≡ cond (is-set (now (self .entry) .words) bit) 1 0 ⌝ }
     {
-        if self.is_set(bit) { 1 } else { 0 }
+        if has_bit(self.words[(bit / 64) as usize], bit % 64) {
+            1
+        } else {
+            0
+        }
     }
 
     // The bit that a hash names.

@@ -13,15 +13,17 @@ use single_bit::SingleBit;
 use single_bit::SingleBitSignature;
 use std::test::*;
 
-// These bits are set, and no others.
-fn has_just<const WORDS: usize>(register: &Register<WORDS>, bits: &[u16]) -> bool {
-    for bit in 0..64 * WORDS {
-        let bit = bit as u16;
-        if register.is_set(bit) != bits.contains(&bit) {
+// A register told this line alone has just these bits, which stand in ascending order.
+fn sets_just<const WORDS: usize>(register: &mut Register<WORDS>, line: u16, bits: &[u16]) -> bool {
+    register.reset();
+    register.insert(line);
+    let named = register.bits(line);
+    for bit in bits {
+        if !named.contains(bit) {
             return false;
         }
     }
-    true
+    register.ones() == bits.len()
 }
 
 // Of the lines below 65,535, just these hit.
@@ -47,28 +49,20 @@ fn hits_everywhere<S: Signature>(signature: &S) -> bool {
 fn a_line_sets_its_bits_and_no_others() -> Result<(), Fail> {
     let mut wide = Register1024::new();
     let mut narrow = Register128::new();
-    wide.insert(1);
-    narrow.insert(1);
-    check(has_just(&wide, &[0, 1, 32, 512]))?;
-    check(has_just(&narrow, &[0, 1, 32]))?;
-    wide.reset();
-    narrow.reset();
-    wide.insert(3);
-    narrow.insert(3);
-    check(has_just(&wide, &[0, 3, 48, 576]))?;
-    check(has_just(&narrow, &[0, 3, 48, 64]))?;
-    check(wide.ones() == 4)
+    check(sets_just(&mut wide, 1, &[0, 1, 32, 512]))?;
+    check(sets_just(&mut narrow, 1, &[0, 1, 32]))?;
+    check(sets_just(&mut wide, 3, &[0, 3, 48, 576]))?;
+    check(sets_just(&mut narrow, 3, &[0, 3, 48, 64]))
 }
 
 #[test]
 fn a_narrow_register_hits_falsely() -> Result<(), Fail> {
     let mut narrow = Register128::new();
-    narrow.insert(128);
-    check(has_just(&narrow, &[0, 16]))?;
+    check(sets_just(&mut narrow, 128, &[0, 16]))?;
     check(narrow.hit(0))?;
     check(!narrow.hit(1))?;
     narrow.reset();
-    check(has_just(&narrow, &[]))
+    check(narrow.ones() == 0)
 }
 
 #[test]
