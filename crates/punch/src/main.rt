@@ -1,6 +1,10 @@
 // Punches a card: inserts the lines of standard input into a signature of each kind, and prints what became of them.
+use both::Both;
+use both::BothSignature;
 use card::listing::insertion;
 use card::listing::summary;
+use coarse::Coarse;
+use coarse::CoarseSignature;
 use line_list::LineList;
 use line_list::LineListSignature;
 use line_text::read;
@@ -9,10 +13,6 @@ use register::Register128;
 use register::Register1024;
 use register::RegisterSignature;
 use signature::Signature;
-use signature::both::Both;
-use signature::both::BothSignature;
-use signature::coarse::Coarse;
-use signature::coarse::CoarseSignature;
 use std::io;
 use std::io::Read;
 

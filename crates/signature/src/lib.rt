@@ -1,11 +1,9 @@
-// What a signature means, and the kinds that are made of others.
+// What a signature means.
 ghost use mathlib.Core.Path.{_≡_};
 ghost use mathlib.Core.Bool.{Bool};
 ghost use Prim.Native.Nat.{ℕ};
 ghost use Rattle.signature.specs.Meaning.{Emptied, Inserted};
 
-pub mod both;
-pub mod coarse;
 pub mod members;
 
 // A set of lines that may hold more than it was told.

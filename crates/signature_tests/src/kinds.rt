@@ -1,3 +1,7 @@
+use both::Both;
+use both::BothSignature;
+use coarse::Coarse;
+use coarse::CoarseSignature;
 use line_list::LineList;
 use line_list::LineListSignature;
 use register::Register;
@@ -5,10 +9,6 @@ use register::Register128;
 use register::Register1024;
 use register::RegisterSignature;
 use signature::Signature;
-use signature::both::Both;
-use signature::both::BothSignature;
-use signature::coarse::Coarse;
-use signature::coarse::CoarseSignature;
 use single_bit::SingleBit;
 use single_bit::SingleBitSignature;
 use std::test::*;

@@ -1,6 +1,6 @@
 // Two signatures as one: a line hits where both hit.
 ghost use mathlib.Core.Bool.{_&&_};
-use crate::Signature;
+use signature::Signature;
 
 #[derive(Clone, Copy)]
 pub struct Both<A, B> {

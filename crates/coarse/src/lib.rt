@@ -1,6 +1,6 @@
 // A signature over groups of four lines: it is told, and asked for, the group's number.
 ghost use Prim.Native.Nat.{_/_};
-use crate::Signature;
+use signature::Signature;
 
 #[derive(Clone, Copy)]
 pub struct Coarse<A> {
