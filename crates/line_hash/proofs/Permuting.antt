@@ -1,5 +1,5 @@
 -- One bit more of a permuted line, from the highest down. Assumes nothing.
-use mathlib.Core.Path.{_≡_, refl, sym, ap, _∙_}
+use mathlib.Core.Path.{_≡_, sym, ap, _∙_}
 use mathlib.Core.List.{List, [], _∷_}
 use Prim.Native.Nat.{ℕ, suc, _+_, _-_, _*_, _/_, _%_, _^_, _≤_, _<_}
 use native.Mathlib.Nat.{pow-succ'}
@@ -8,7 +8,7 @@ use lib.Bits.{bitAnd, and-mask}
 use lib.ListN.{length, getD, drop}
 use Rattle.std.proofs.shelf.Bits.{mod-below}
 use Rattle.std.proofs.shelf.Lists.{at-drop-more, at-drop-all}
-use Rattle.line_hash.specs.Hashes.{permuted, bit-of}
+use Rattle.line_hash.specs.Hashes.{permuted}
 
 module _ (table : List ℕ) (line : ℕ) (sixteen : length table ≡ 16) where
   pub none-yet : 0 ≡ permuted (drop 16 table) line

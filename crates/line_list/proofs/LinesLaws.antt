@@ -1,14 +1,14 @@
 -- What an insert into a list of lines keeps and adds. Assumes nothing.
 use mathlib.Core.Path.{_≡_, refl, sym, ap, _∙_}
 use mathlib.Core.Logic.{⊎-elim}
-use mathlib.Core.Bool.{Bool, true, false, cond, _||_, or-true, or-false, or-assoc}
+use mathlib.Core.Bool.{Bool, true, false, cond, _||_, or-true, or-assoc}
 use mathlib.Core.List.{List, [], _∷_, _++_}
 use Prim.Native.Nat.{ℕ, _+_, _≤_, _<_}
 use native.Mathlib.Omega.{arith}
 use lib.Dec.{eqb, ltb}
-use lib.ListN.{length, getD, take, drop, set}
-use Rattle.std.proofs.shelf.Lists.{at-drop-more, at-drop-all, length-take, take-more-set}
-use Rattle.std.proofs.shelf.Tests.{eq-eqb, ne-eqb, lt-ltb, cond-true, cond-false, cond-both, or-cases, or-parts, or-left, both-ways}
+use lib.ListN.{length, take, set}
+use Rattle.std.proofs.shelf.Lists.{length-take, take-more-set}
+use Rattle.std.proofs.shelf.Tests.{eq-eqb, lt-ltb, cond-true, cond-false, cond-both, or-cases, or-parts, or-left, both-ways}
 use Rattle.signature.specs.Members.{among}
 use Rattle.line_list.specs.Lines.{Lines, lines-of, hits, inserted}
 

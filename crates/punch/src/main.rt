@@ -12,9 +12,35 @@ use register::Register;
 use register::Register128;
 use register::Register1024;
 use register::RegisterSignature;
-use signature::Signature;
+use std::alloc::Global;
 use std::io;
 use std::io::Read;
+
+// Inserts the lines into a register, and says what became of it.
+fn punch_register<const WORDS: usize>(
+    heap: Global,
+    name: &str,
+    mut register: Register<WORDS>,
+    lines: &[u16],
+) -> io::Result<String> {
+    let hits = summary(heap, name, &mut register, lines)?;
+    let ones = register.ones();
+    let width = 64 * WORDS;
+    Ok(format!(heap, "{hits}, {ones} of {width} bits set")?)
+}
+
+// Inserts the lines into a signature of each kind, and says of each what became of it.
+fn punch(heap: Global, lines: &[u16]) -> io::Result<[String; 5]> {
+    let wide = punch_register(heap, "1024-bit register", Register1024::new(), lines)?;
+    let narrow = punch_register(heap, "128-bit register", Register128::new(), lines)?;
+    let list = summary(heap, "list", &mut LineList::new(), lines)?;
+    let first = Register128::new();
+    let second = LineList::new();
+    let both = summary(heap, "both", &mut Both { first, second }, lines)?;
+    let below = LineList::new();
+    let coarse = summary(heap, "coarse", &mut Coarse { below }, lines)?;
+    Ok([wide, narrow, list, both, coarse])
+}
 
 fn show_insertions(rt: &LibcRuntime, lines: &[u16]) -> io::Result<()> {
     let wide = Register1024::new();
@@ -25,48 +51,19 @@ fn show_insertions(rt: &LibcRuntime, lines: &[u16]) -> io::Result<()> {
     Ok(())
 }
 
-fn show_register<const WORDS: usize>(
-    rt: &LibcRuntime,
-    name: &str,
-    mut register: Register<WORDS>,
-    lines: &[u16],
-) -> io::Result<()> {
-    let hits = summary(rt.alloc(), name, &mut register, lines)?;
-    let ones = register.ones();
-    let width = 64 * WORDS;
-    println!(rt, "{hits}, {ones} of {width} bits set")
-}
-
-fn show<S: Signature + Drop>(
-    rt: &LibcRuntime,
-    name: &str,
-    mut signature: S,
-    lines: &[u16],
-) -> io::Result<()> {
-    rt.println(summary(rt.alloc(), name, &mut signature, lines)?)
-}
-
-fn show_summaries(rt: &LibcRuntime, lines: &[u16]) -> io::Result<()> {
-    show_register(rt, "1024-bit register", Register1024::new(), lines)?;
-    show_register(rt, "128-bit register", Register128::new(), lines)?;
-    show(rt, "list", LineList::new(), lines)?;
-    let first = Register128::new();
-    let second = LineList::new();
-    show(rt, "both", Both { first, second }, lines)?;
-    let below = LineList::new();
-    show(rt, "coarse", Coarse { below }, lines)
-}
-
+// The lines are inserted before anything is said of them, also where a malformed line ends the run.
 fn main(rt: LibcRuntime) -> io::Result<()> {
     let mut text = Vec::new(rt.alloc());
     rt.stdin().read_to_end(&mut text)?;
     let reading = read(rt.alloc(), &text)?;
+    let summaries = punch(rt.alloc(), &reading.lines)?;
     show_insertions(&rt, &reading.lines)?;
-    match reading.malformed {
-        Some(place) => {
-            eprintln!(rt, "input line {place} is no number below 65536")?;
-            Err(io::Error::from(io::ErrorKind::InvalidData))
-        }
-        None => show_summaries(&rt, &reading.lines),
+    if let Some(place) = reading.malformed {
+        eprintln!(rt, "input line {place} is no number below 65536")?;
+        return Err(io::Error::from(io::ErrorKind::InvalidData));
     }
+    for text in summaries {
+        rt.println(text)?;
+    }
+    Ok(())
 }

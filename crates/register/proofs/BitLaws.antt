@@ -1,10 +1,10 @@
 -- The bits of an `or` and of a power of two. Assumes nothing.
-use mathlib.Core.Path.{_≡_, refl, sym, ap, _∙_}
+use mathlib.Core.Path.{_≡_, sym, ap, _∙_}
 use mathlib.Core.Logic.{_≢_, ⊎-elim}
-use Prim.Native.Nat.{ℕ, zero, suc, _+_, _-_, _*_, _/_, _%_, _^_, _≤_, _<_}
+use Prim.Native.Nat.{ℕ, suc, _+_, _-_, _*_, _/_, _%_, _^_, _≤_, _<_}
 use native.Mathlib.Nat.{one-mul, div-eq-of-lt}
 use native.Mathlib.Omega.{arith}
-use lib.Bits.{bitOr, or-shr, or-mod, or-zero-r, shifted-even}
+use lib.Bits.{bitOr, or-shr, or-mod, shifted-even}
 use lib.Pow.{pow-lt, pow-add, shl-shr}
 use Rattle.std.proofs.shelf.Tests.{cases-order}
 use Rattle.line_hash.specs.Hashes.{bit-of}
