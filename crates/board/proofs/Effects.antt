@@ -1,0 +1,61 @@
+-- What the table of effects says, read backwards.
+use mathlib.Core.Path.{_≡_, refl, sym, subst}
+use mathlib.Core.Bool.{Bool, true, false, cond, _&&_}
+use mathlib.Core.List.{List, [], _∷_}
+use Prim.Native.Nat.{ℕ, zero, suc, _<_}
+use native.Mathlib.Omega.{arith}
+use lib.Dec.{eqb}
+use denote.Ref.{now}
+use lib.ListN.{length}
+use Rattle.std.proofs.shelf.Tests.{eq-eqb}
+use Rattle.signature.specs.declared.Signature.{Ghosts}
+use Rattle.board.specs.declared.effect.Effect.{Effect}
+use Rattle.board.specs.declared.effect.Effect.the-variants.{Stays, Repeats, Aborts}
+use Rattle.board.specs.declared.parts.Board.{Board}
+use Rattle.board.specs.declared.phase.Phase.{Phase}
+use Rattle.board.specs.declared.phase.Phase.the-variants.{Idle, Running, Validating, Copying, Aborted}
+use Rattle.board.specs.Admissions.{Has, Repeatable}
+use Rattle.board.specs.Requests.{again, effect, effect-on}
+use Rattle.board.specs.Views.{right-lengths, view}
+
+-- an element of a list that has one at the place
+some : {A : Type 0} (xs : List A) (i : ℕ) → i < length xs → A
+some [] i h = absurd (omega arith)
+some (x ∷ xs) i h = x
+
+module _ (n : ℕ) where
+  never-stays : Repeats ≡ Stays → ⊥
+  never-stays is = let z : _≡_ {A = ℕ} 0 1 = cc in omega arith
+
+  never-aborts : Repeats ≡ Aborts → ⊥
+  never-aborts is = let z : _≡_ {A = ℕ} 0 1 = cc in omega arith
+
+  running : (hit : Bool) → Repeats ≡ cond hit Aborts Stays → ⊥
+  running true is = never-aborts is
+  running false is = never-stays is
+
+  validating : (read-hit write-hit : Bool) → Repeats ≡ cond read-hit Aborts (cond write-hit (again n) Stays) → n ≡ 4 → ⊥
+  validating true write-hit is four = never-aborts is
+  validating false true is four = never-aborts (rw (eq-eqb n 4 four) at is)
+  validating false false is four = never-stays is
+
+  -- only a validating thread repeats, and not after four repeats
+  pub repeats-when : (exclusive : Bool) (p : Phase) (read-hit write-hit : Bool) → Repeats ≡ effect exclusive p n read-hit write-hit → (p ≡ Validating) × (n ≡ 4 → ⊥)
+  repeats-when exclusive Idle read-hit write-hit is = absurd (never-stays is)
+  repeats-when exclusive Running read-hit write-hit is = absurd (running (exclusive && read-hit) is)
+  repeats-when exclusive Validating read-hit write-hit is = (refl, validating (exclusive && read-hit) write-hit is)
+  repeats-when exclusive Copying read-hit write-hit is = absurd (never-stays is)
+  repeats-when exclusive Aborted read-hit write-hit is = absurd (never-stays is)
+
+rows-long : (words records entries reads writes : ℕ) → right-lengths words records entries reads writes ≡ true → (reads ≡ records) × (writes ≡ records)
+rows-long words records entries reads writes fits = grind (arith, fits)
+
+pub repeatable : {R W : Type 0} (r : Ghosts R) (w : Ghosts W) (exclusive : Bool) (l u : ℕ) (b : Board R W) → Has u b →
+    ((d : R) (e : W) → Repeats ≡ effect-on r w exclusive l (view b d e .thread u)) → Repeatable u b
+repeatable r w exclusive l u b has is =
+    let long = rows-long (length (now (b .words))) (length (now (b .records))) (length (now (b .entries))) (length (now (b .reads))) (length (now (b .writes))) (has .fits) in
+    let d = some (now (b .reads)) u (subst (λ n. u < n) (sym (long .0)) (has .thread)) in
+    let e = some (now (b .writes)) u (subst (λ n. u < n) (sym (long .1)) (has .thread)) in
+    let x = view b d e .thread u in
+    let when = repeats-when (x .repeats) exclusive (x .phase) (r .has (x .reads) l) (w .has (x .writes) l) (is d e) in
+    record { phase = when .0; repeats = when .1 }

@@ -1,0 +1,13 @@
+mod Areas
+mod Cursors
+mod Effects
+mod Firsts
+mod Loads
+mod Outcomes
+mod Owns
+mod Places
+mod Progress
+mod Puts
+mod ReadBack
+mod Scans
+mod Turning

@@ -1,0 +1,15 @@
+use mathlib.Core.Path.{sym, _∙_}
+use Rattle.board.specs.Requests.{nacker}
+use Rattle.board.proofs.Firsts.{first-more, first-all}
+use Rattle.board.proofs.parts.Board.find_nacker.Needs as need
+
+pub loop-u-again : need.loop-u-again
+loop-u-again g c d e = c .loop-u .inv d e ∙ first-more _ _ _ (c .loop-u-test .taken) ∙ rw (← c .if-does-nack .ensures tt d e)
+
+pub returns-then-does-nack : need.returns-then-does-nack
+unfolding nacker
+returns-then-does-nack g c d e = sym (c .loop-u .inv d e ∙ first-more _ _ _ (c .loop-u-test .taken) ∙ rw (← c .if-does-nack .ensures tt d e))
+
+pub returns : need.returns
+unfolding nacker
+returns g c d e = sym (c .loop-u .inv d e ∙ first-all _ _ _ (c .loop-u-test .left))

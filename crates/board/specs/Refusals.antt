@@ -1,0 +1,89 @@
+-- When a call is refused, and with what. Assumes nothing.
+use mathlib.Core.Bool.{Bool, true, cond, not, _&&_, _||_}
+use mathlib.Core.List.{List, [], _∷_}
+use Prim.Native.Nat.{ℕ}
+use lib.Dec.{eqb, ltb}
+use lib.ListN.{length}
+use Rattle.std.specs.Options.{isSome}
+use Rattle.std.specs.declared.option.Option.{Option}
+use Rattle.std.specs.declared.option.Option.the-variants.{Some, None}
+use Rattle.std.specs.declared.result.Result.{Result}
+use Rattle.std.specs.declared.result.Result.the-variants.{Ok, Err}
+use Rattle.signature.specs.declared.Signature.{Ghosts}
+use Rattle.board.specs.declared.entry.Entry.{Entry}
+use Rattle.board.specs.declared.phase.Phase.{Phase}
+use Rattle.board.specs.declared.refusal.Refusal.{Refusal}
+use Rattle.board.specs.Cases.{Case, case, refusal-case}
+use Rattle.board.specs.Phases.{phase-number, is-idle, is-running, is-committing, is-live, is-aborted}
+use Rattle.board.specs.Requests.{nacker}
+use Rattle.board.specs.States.{State, line, lookup}
+
+-- a call, with its arguments: a thread, an address, a word
+pub data Call : Type 0 where
+  begin commit step abandon : ℕ → Call
+  read : ℕ → ℕ → Call
+  write : ℕ → ℕ → ℕ → Call
+  plain-read : ℕ → Call
+  plain-write : ℕ → ℕ → Call
+
+-- each entry's address is below the size
+abbrev pub all-below : ℕ → List Entry → Bool
+all-below size [] = true
+all-below size (e ∷ es) = ltb (e .address) size && all-below size es
+
+-- a row of the table: refused where the condition holds; where it does not, the rows after it decide
+abbrev pub row : Bool → ℕ → List ℕ → Option Case → Option Case
+row condition number values after = cond condition (Some (case number values)) after
+
+-- what some rows decided, before those after them: a refusal stands
+abbrev pub decided : {X : Type 0} → Result X Refusal → Option Case → Option Case
+decided (Ok x) after = after
+decided (Err f) after = Some (refusal-case f)
+
+-- the phase is neither one that the call allows nor Aborted, which has a row of its own
+abbrev pub phase-row : (Phase → Bool) → Phase → Option Case → Option Case
+phase-row allows p after = row (not (allows p || is-aborted p)) 5 (phase-number p ∷ []) after
+
+-- the rows on the phase of thread t, for a call that an aborted thread may not make
+abbrev pub phase-rows : (Phase → Bool) → Phase → ℕ → Option Case → Option Case
+phase-rows allows p t after = phase-row allows p (row (is-aborted p) 6 (t ∷ []) after)
+
+-- no room for one more address
+abbrev pub full-row : List Entry → ℕ → ℕ → Option Case → Option Case
+full-row buffer t a after = row (eqb (length buffer) 32 && not (isSome (lookup buffer a))) 7 (t ∷ []) after
+
+-- the thread that nacks, if one does
+abbrev pub nack-row : Option ℕ → Option Case
+nack-row None = None
+nack-row (Some j) = Some (case 8 (j ∷ []))
+
+-- a read makes a request only for an address that the thread has not written
+abbrev pub read-row : Option ℕ → Option ℕ → Option Case
+read-row None nacking = nack-row nacking
+read-row (Some v) nacking = None
+
+module _ {R W : Type 0} (s : State R W) where
+  -- the parts, for every call
+  abbrev pub parts-row : Option Case → Option Case
+  parts-row after = row (not (s .fits)) 1 [] after
+
+  -- the parts, and the thread that a call names with its counted entries
+  abbrev pub thread-rows : ℕ → Option Case → Option Case
+  thread-rows t after = parts-row (row (not (ltb t (s .threads))) 2 (t ∷ []) (row (not (all-below (s .size) (s .thread t .buffer))) 3 (t ∷ []) after))
+
+  -- the address that a call names
+  abbrev pub address-row : ℕ → Option Case → Option Case
+  address-row a after = row (not (ltb a (s .size))) 4 (a ∷ []) after
+
+-- the refusal of a call, if it is refused: the rows from the top of the table down, so that the upper one wins
+module _ {R W : Type 0} (r : Ghosts R) (w : Ghosts W) (s : State R W) where
+  unfoldable pub refusal : Call → Option Case
+  refusal (begin t) = thread-rows s t (phase-rows is-idle (s .thread t .phase) t None)
+  refusal (commit t) = thread-rows s t (phase-rows is-running (s .thread t .phase) t None)
+  refusal (step t) = thread-rows s t (phase-rows is-committing (s .thread t .phase) t None)
+  refusal (abandon t) = thread-rows s t (phase-row is-live (s .thread t .phase) None)
+  refusal (read t a) =
+      thread-rows s t (address-row s a (phase-rows is-running (s .thread t .phase) t (read-row (lookup (s .thread t .buffer) a) (nacker r w s (Some t) (line a)))))
+  refusal (write t a v) = thread-rows s t (address-row s a (phase-rows is-running (s .thread t .phase) t (full-row (s .thread t .buffer) t a None)))
+  refusal (plain-read a) = parts-row s (address-row s a (nack-row (nacker r w s None (line a))))
+  refusal (plain-write a v) = parts-row s (address-row s a (nack-row (nacker r w s None (line a))))

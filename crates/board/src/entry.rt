@@ -1,0 +1,7 @@
+// A buffered word.
+
+#[derive(Clone, Copy)]
+pub struct Entry {
+    pub address: u32,
+    pub word: u32,
+}

@@ -1,0 +1,11 @@
+// What an accepted step did.
+
+#[derive(Clone, Copy)]
+pub enum Stepped {
+    Fetched,
+    Repeated(u32),
+    Lost,
+    Passed,
+    Copied,
+    Ended,
+}

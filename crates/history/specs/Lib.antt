@@ -1,0 +1,3 @@
+pub mod Law
+pub mod Runs
+pub mod Serial
