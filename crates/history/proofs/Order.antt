@@ -64,6 +64,7 @@ module _ {R W : Type 0} (r : Ghosts R) (w : Ghosts W) where
       record {
         answered = k .1;
         live = λ t h alive e m. k .0 .each t h .live (rw alive tt) e (member-in _ e m);
-        memory = λ a h. elim (k .0 .memory a) [ inl e ↦ inl e | inr m ↦ inr (m .0, m .1, copies-is _ (m .2), m .3) ];
+        ready = λ t h alive. let x = k .0 .each t h in x .kept (inl (rw alive tt)) .right _ (x .live (rw alive tt));
+        memory = λ a. elim (k .0 .memory a) [ inl e ↦ inl e | inr m ↦ inr (m .0, m .1, copies-is _ (m .2), m .3) ];
         ended = k .2;
       }

@@ -55,8 +55,10 @@ pub record Serial {R W : Type 0} (words : ℕ → ℕ) (es : List Event) (s : St
   pub answered : Answered words es
   -- what a live transaction has read from memory is the serial word now
   pub live : (t : ℕ) → t < s .threads → is-live (s .thread t .phase) ≡ true → (e : Entry) → Member e (loads es t) → serial-words words (fed es) (e .address) ≡ e .word
+  -- were it to pass now, all its reads would be right
+  pub ready : (t : ℕ) → t < s .threads → is-live (s .thread t .phase) ≡ true → heard es t ≡ answers (serial-words words (fed es)) (list (fed es) t)
   -- memory has the serial words, but where a transaction that passed has still to copy
-  pub memory : (a : ℕ) → a < s .size →
+  pub memory : (a : ℕ) →
       (s .words a ≡ serial-words words (fed es) a) ⊎ ((t : ℕ) × (t < s .threads) × (s .thread t .phase ≡ Copying) × Member a (to-copy es t))
   -- transactions that ended took as many steps as they had to
   pub ended : Ended-in-time es

@@ -1,6 +1,6 @@
 -- Runs of calls on a board, and what was answered and done in them. Newest first. Assumes nothing.
-use mathlib.Core.Bool.{Bool, cond, not, _&&_}
-use mathlib.Core.List.{List, [], _∷_, _++_, map}
+use mathlib.Core.Bool.{cond, not, _&&_}
+use mathlib.Core.List.{List, [], _∷_, _++_}
 use Prim.Native.Nat.{ℕ, _+_}
 use lib.Dec.{eqb}
 use lib.ListN.{drop}
@@ -8,7 +8,7 @@ use Rattle.signature.specs.declared.Signature.{Ghosts}
 use Rattle.board.specs.declared.entry.Entry.{Entry}
 use Rattle.board.specs.declared.stepped.Stepped.the-variants.{Passed, Copied}
 use Rattle.board.specs.Cases.{is}
-use Rattle.board.specs.Refusals.{Call, begin, commit, step, abandon, read, write, plain-read, plain-write}
+use Rattle.board.specs.Refusals.{begin, commit, step, abandon, read, write, plain-read, plain-write}
 use Rattle.board.specs.Rules.{Event, Rule, began, committed, abandoned, got, put, stepped, plain-got, plain-put, refused}
 use Rattle.board.specs.States.{State}
 use Rattle.history.specs.Serial.{Fed, refusal, accepted, passed, list, written, targets}
@@ -75,7 +75,7 @@ to-copy (plain-got a v ∷ es) t = to-copy es t
 to-copy (plain-put a v ∷ es) t = to-copy es t
 to-copy (refused c f ∷ es) t = to-copy es t
 
--- how many steps thread t took since it passed
+-- how many steps thread t has taken since it last passed
 abbrev pub steps : List Event → ℕ → ℕ
 steps [] t = 0
 steps (began u ∷ es) t = steps es t
