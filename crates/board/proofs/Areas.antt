@@ -10,7 +10,7 @@ use lib.Seq.{getD-take, getD-drop}
 use Rattle.std.proofs.shelf.Lists.{drop-take, getD-default}
 use Rattle.std.proofs.shelf.Parts.{between-putMid, drop-putMid, take-putMid-below}
 use Rattle.std.proofs.shelf.Tests.{cases-lt}
-use Rattle.board.specs.declared.entry.Entry.{Entry}
+use Rattle.write_buffer.specs.declared.entry.Entry.{Entry}
 use Rattle.board.specs.Views.{part}
 
 -- an entry of the area is one of its part

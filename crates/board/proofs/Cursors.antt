@@ -9,14 +9,14 @@ use lib.Dec.{ltb}
 use lib.ListN.{length, getD, take}
 use lib.Seq.{getD-take}
 use Rattle.std.proofs.shelf.Tests.{and-parts, ltb-true}
-use Rattle.board.specs.declared.entry.Entry.{Entry}
+use Rattle.write_buffer.specs.declared.entry.Entry.{Entry}
+use Rattle.write_buffer.specs.Buffers.{all-below}
 use Rattle.board.specs.declared.parts.Board.{Board}
-use Rattle.board.specs.declared.phase.Phase.{Phase}
-use Rattle.board.specs.declared.record.Record.{Record}
+use Rattle.thread_record.specs.declared.phase.Phase.{Phase}
+use Rattle.thread_record.specs.declared.record.Record.{Record}
 use Rattle.board.specs.Admissions.{Admitted, Has}
 use Rattle.board.specs.Changes.{Record-stored}
-use Rattle.board.specs.Records.{Is, plain-of}
-use Rattle.board.specs.Refusals.{all-below}
+use Rattle.thread_record.specs.Records.{Is, plain-of}
 use Rattle.board.specs.Rules.{At-cursor, Stores}
 use Rattle.board.specs.States.{State, Only, at, stored}
 use Rattle.board.specs.Views.{part, view}

@@ -9,13 +9,14 @@ use denote.Ref.{now}
 use lib.ListN.{length}
 use Rattle.std.proofs.shelf.Tests.{eq-eqb}
 use Rattle.signature.specs.declared.Signature.{Ghosts}
-use Rattle.board.specs.declared.effect.Effect.{Effect}
-use Rattle.board.specs.declared.effect.Effect.the-variants.{Stays, Repeats, Aborts}
+use Rattle.conflict.specs.declared.effect.Effect.{Effect}
+use Rattle.conflict.specs.declared.effect.Effect.the-variants.{Stays, Repeats, Aborts}
+use Rattle.conflict.specs.Conflicts.{again, effect}
 use Rattle.board.specs.declared.parts.Board.{Board}
-use Rattle.board.specs.declared.phase.Phase.{Phase}
-use Rattle.board.specs.declared.phase.Phase.the-variants.{Idle, Running, Validating, Copying, Aborted}
+use Rattle.thread_record.specs.declared.phase.Phase.{Phase}
+use Rattle.thread_record.specs.declared.phase.Phase.the-variants.{Idle, Running, Validating, Copying, Aborted}
 use Rattle.board.specs.Admissions.{Has, Repeatable}
-use Rattle.board.specs.Requests.{again, effect, effect-on}
+use Rattle.board.specs.Requests.{effect-on}
 use Rattle.board.specs.Views.{right-lengths, view}
 
 -- an element of a list that has one at the place

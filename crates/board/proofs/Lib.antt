@@ -5,9 +5,7 @@ mod Firsts
 mod Loads
 mod Outcomes
 mod Owns
-mod Places
 mod Progress
 mod Puts
 mod ReadBack
-mod Scans
 mod Turning

@@ -8,12 +8,14 @@ use Rattle.std.specs.declared.option.Option.the-variants.{Some, None}
 use Rattle.std.proofs.shelf.Tests.{eq-eqb}
 use Rattle.signature.specs.Meaning.{Inserted}
 use Rattle.signature.specs.declared.Signature.{Ghosts}
+use Rattle.conflict.specs.Conflicts.{line, other}
+use Rattle.write_buffer.specs.Buffers.{lookup}
 use Rattle.board.specs.declared.parts.Board.{Board}
 use Rattle.board.specs.Changes.{Reads-turned}
 use Rattle.board.specs.Refusals.{read, refusal}
-use Rattle.board.specs.Requests.{Requested, other}
+use Rattle.board.specs.Requests.{Requested}
 use Rattle.board.specs.Rules.{Rule, got, reads-memory, with-reads}
-use Rattle.board.specs.States.{Only, line, lookup}
+use Rattle.board.specs.States.{Only}
 use Rattle.board.specs.Views.{view}
 use Rattle.board.proofs.Turning.{reads-thread}
 

@@ -10,11 +10,12 @@ use Rattle.std.specs.declared.result.Result.{Result}
 use Rattle.std.specs.declared.result.Result.the-variants.{Ok, Err}
 use Rattle.std.proofs.shelf.Results.{err-from-errBy}
 use Rattle.signature.specs.declared.Signature.{Ghosts}
+use Rattle.refusal.specs.Rows.{decided}
 use Rattle.board.specs.declared.parts.Board.{Board}
-use Rattle.board.specs.declared.refusal.Refusal.{Refusal}
-use Rattle.board.specs.declared.refusal.Refusal.the-variants.{Nacked}
-use Rattle.board.specs.Cases.{Case, case, refusal-case}
-use Rattle.board.specs.Refusals.{Call, decided, parts-row, refusal}
+use Rattle.refusal.specs.declared.refusal.Refusal.{Refusal}
+use Rattle.refusal.specs.declared.refusal.Refusal.the-variants.{Nacked}
+use Rattle.refusal.specs.Cases.{Case, case, refusal-case}
+use Rattle.board.specs.Refusals.{Call, parts-row, refusal}
 use Rattle.board.specs.Rules.{Event, refuses}
 use Rattle.board.specs.Views.{Called, Opens, Same-parts, view}
 

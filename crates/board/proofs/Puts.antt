@@ -12,20 +12,21 @@ use Rattle.std.specs.Options.{isSome}
 use Rattle.std.specs.declared.option.Option.the-variants.{None}
 use Rattle.signature.specs.Meaning.{Inserted}
 use Rattle.signature.specs.declared.Signature.{Ghosts}
-use Rattle.board.specs.declared.entry.Entry.{Entry}
+use Rattle.write_buffer.specs.declared.entry.Entry.{Entry}
+use Rattle.conflict.specs.Conflicts.{line}
 use Rattle.board.specs.declared.parts.Board.{Board}
-use Rattle.board.specs.declared.phase.Phase.the-variants.{Running}
-use Rattle.board.specs.declared.record.Record.{Record}
+use Rattle.thread_record.specs.declared.phase.Phase.the-variants.{Running}
+use Rattle.thread_record.specs.declared.record.Record.{Record}
 use Rattle.board.specs.Admissions.{Admitted}
-use Rattle.board.specs.Buffers.{place}
+use Rattle.write_buffer.specs.Buffers.{fronted, lookup, place, placed}
 use Rattle.board.specs.Changes.{Entry-stored, Record-stored, Writes-turned}
-use Rattle.board.specs.Records.{Is, plain-of}
+use Rattle.thread_record.specs.Records.{Is, plain-of}
 use Rattle.board.specs.Refusals.{refusal, write}
 use Rattle.board.specs.Rules.{Rule, put, writes-word}
-use Rattle.board.specs.States.{Only, Thread, fronted, line, lookup, placed, stored}
+use Rattle.board.specs.States.{Only, Thread, stored}
 use Rattle.board.specs.Views.{part, view}
 use Rattle.board.proofs.Owns.{own-buffer, own-count}
-use Rattle.board.proofs.Places.{placed-front, placed-long, place-full}
+use Rattle.write_buffer.proofs.Places.{placed-front, placed-long, place-full}
 use Rattle.board.proofs.Progress.{has-still}
 use Rattle.board.proofs.ReadBack.{few, length-front}
 use Rattle.board.proofs.Turning.{part-long, stored-thread, with-writes, writes-thread}
@@ -59,26 +60,26 @@ module _ {R W : Type 0} (r : Ghosts R) (w : Ghosts W) (t a v : ℕ) (before : Re
         put-in .stored ∙ placed-front a v (before .count) area inside place-inside
 
     module _ (rec : Record) (is : Is Running (max (before .count) (place buffer a + 1)) 0 0 rec) (counted : Record-stored t (plain-of rec) b₁ b₂)
-      (told : Writes-turned t (λ s s′. Inserted (w .has) (w .inserts) s (line a) s′) b₂ b₃) (d : R) (e : W)
+        (told : Writes-turned t (λ s s′. Inserted (w .has) (w .inserts) s (line a) s′) b₂ b₃) (d : R) (e : W)
       where
-      count-is : max (before .count) (place buffer a + 1) ≡ length (placed buffer a v)
-      count-is = ap (λ n. max n (place buffer a + 1)) (sym buffer-long) ∙ sym (placed-long a v buffer)
+        count-is : max (before .count) (place buffer a + 1) ≡ length (placed buffer a v)
+        count-is = ap (λ n. max n (place buffer a + 1)) (sym buffer-long) ∙ sym (placed-long a v buffer)
 
-      front-is : take (max (before .count) (place buffer a + 1)) (part t (now (b₁ .entries))) ≡ placed buffer a v
-      front-is = ap (λ xs. take (max (before .count) (place buffer a + 1)) xs) after ∙ take-at (placed buffer a v) _ _ (sym count-is)
+        front-is : take (max (before .count) (place buffer a + 1)) (part t (now (b₁ .entries))) ≡ placed buffer a v
+        front-is = ap (λ xs. take (max (before .count) (place buffer a + 1)) xs) after ∙ take-at (placed buffer a v) _ _ (sym count-is)
 
-      same-writes : getD (now (b₂ .writes)) t e ≡ getD (now (b .writes)) t e
-      same-writes = ap (λ xs. getD xs t e) (counted .writes ∙ put-in .writes)
+        same-writes : getD (now (b₂ .writes)) t e ≡ getD (now (b .writes)) t e
+        same-writes = ap (λ xs. getD xs t e) (counted .writes ∙ put-in .writes)
 
-      thread-is :
-          view b₃ d e .thread t ≡ stored Running (placed (view b d e .thread t .buffer) a v) 0 0 (fronted (placed (view b d e .thread t .buffer) a v) area) (getD (now (b .reads)) t d) (getD (now (b₃ .writes)) t e)
-      thread-is =
-          writes-thread b₂ b₃ told d e
-          ∙ ap (λ x. with-writes x (getD (now (b₃ .writes)) t e)) (stored-thread t b₁ (has-still b b₁ t (put-in .parts) (admitted .has)) b₂ rec Running (max (before .count) (place buffer a + 1)) 0 0 is counted d e)
-          ∙ (λ i. stored Running (front-is i) 0 0 (after i) (getD (put-in .reads i) t d) (getD (now (b₃ .writes)) t e))
-          ∙ (λ i. stored Running (placed (sym (own-buffer t before b admitted d e) i) a v) 0 0 (fronted (placed (sym (own-buffer t before b admitted d e) i) a v) area) (getD (now (b .reads)) t d) (getD (now (b₃ .writes)) t e))
+        thread-is :
+            view b₃ d e .thread t ≡ stored Running (placed (view b d e .thread t .buffer) a v) 0 0 (fronted (placed (view b d e .thread t .buffer) a v) area) (getD (now (b .reads)) t d) (getD (now (b₃ .writes)) t e)
+        thread-is =
+            writes-thread b₂ b₃ told d e
+            ∙ ap (λ x. with-writes x (getD (now (b₃ .writes)) t e)) (stored-thread t b₁ (has-still b b₁ t (put-in .parts) (admitted .has)) b₂ rec Running (max (before .count) (place buffer a + 1)) 0 0 is counted d e)
+            ∙ (λ i. stored Running (front-is i) 0 0 (after i) (getD (put-in .reads i) t d) (getD (now (b₃ .writes)) t e))
+            ∙ (λ i. stored Running (placed (sym (own-buffer t before b admitted d e) i) a v) 0 0 (fronted (placed (sym (own-buffer t before b admitted d e) i) a v) area) (getD (now (b .reads)) t d) (getD (now (b₃ .writes)) t e))
 
-      pub put-rule : refusal r w (view b d e) (write t a v) ≡ None → Only t (view b d e .words) (view b d e) (view b₃ d e) → Rule r w (view b d e) (put t a v) (view b₃ d e)
-      put-rule accepted only =
-          writes-word accepted only (getD (now (b₃ .writes)) t e)
-          (subst (λ x. Inserted (w .has) (w .inserts) x (line a) (getD (now (b₃ .writes)) t e)) same-writes (told .turned e)) thread-is
+        pub put-rule : refusal r w (view b d e) (write t a v) ≡ None → Only t (view b d e .words) (view b d e) (view b₃ d e) → Rule r w (view b d e) (put t a v) (view b₃ d e)
+        put-rule accepted only =
+            writes-word accepted only (getD (now (b₃ .writes)) t e)
+            (subst (λ x. Inserted (w .has) (w .inserts) x (line a) (getD (now (b₃ .writes)) t e)) same-writes (told .turned e)) thread-is

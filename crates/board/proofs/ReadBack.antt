@@ -4,13 +4,13 @@ use mathlib.Core.List.{List}
 use Prim.Native.Nat.{ℕ, min, _≤_}
 use native.Mathlib.Omega.{arith}
 use lib.ListN.{length, take, length-take}
-use Rattle.board.specs.declared.entry.Entry.{Entry}
-use Rattle.board.specs.declared.phase.Phase.{Phase}
-use Rattle.board.specs.declared.phase.Phase.the-variants.{Idle, Running, Validating, Copying, Aborted}
-use Rattle.board.specs.declared.record.Record.{Record}
-use Rattle.board.specs.Limits.{phase-of, count-limit, count-as, cursor-as, repeats-as}
-use Rattle.board.specs.Phases.{phase-number}
-use Rattle.board.specs.Records.{plain-of}
+use Rattle.write_buffer.specs.declared.entry.Entry.{Entry}
+use Rattle.thread_record.specs.declared.phase.Phase.{Phase}
+use Rattle.thread_record.specs.declared.phase.Phase.the-variants.{Idle, Running, Validating, Copying, Aborted}
+use Rattle.thread_record.specs.declared.record.Record.{Record}
+use Rattle.thread_record.specs.Limits.{phase-of, count-limit, count-as, cursor-as, repeats-as}
+use Rattle.thread_record.specs.Phases.{phase-number}
+use Rattle.thread_record.specs.Records.{plain-of}
 use Rattle.board.specs.States.{stored}
 use Rattle.board.specs.Views.{thread-of}
 
@@ -21,7 +21,7 @@ phase-back Validating = refl
 phase-back Copying = refl
 phase-back Aborted = refl
 
-min-left : (n m : ℕ) → n ≤ m → min n m ≡ n
+pub min-left : (n m : ℕ) → n ≤ m → min n m ≡ n
 min-left n m h = omega arith
 
 pub few : (p : Phase) (n : ℕ) → n ≤ count-limit p → n ≤ 32

@@ -7,13 +7,13 @@ use native.Mathlib.Omega.{arith}
 use denote.Ref.{now}
 use lib.ListN.{length, getD, take, length-take, length-drop}
 use lib.Seq.{getD-set-same}
-use Rattle.board.specs.declared.entry.Entry.{Entry}
+use Rattle.write_buffer.specs.declared.entry.Entry.{Entry}
 use Rattle.board.specs.declared.parts.Board.{Board}
-use Rattle.board.specs.declared.phase.Phase.{Phase}
-use Rattle.board.specs.declared.record.Record.{Record}
+use Rattle.thread_record.specs.declared.phase.Phase.{Phase}
+use Rattle.thread_record.specs.declared.record.Record.{Record}
 use Rattle.board.specs.Admissions.{Has}
 use Rattle.board.specs.Changes.{Record-stored, Reads-turned, Writes-turned}
-use Rattle.board.specs.Records.{Is, plain-of}
+use Rattle.thread_record.specs.Records.{Is, plain-of}
 use Rattle.board.specs.Rules.{with-reads}
 use Rattle.board.specs.States.{Thread, stored}
 use Rattle.board.specs.Views.{blank, part, right-lengths, thread-of, view}
@@ -26,7 +26,7 @@ module _ {R W : Type 0} (t : ℕ) (b : Board R W) (has : Has t b) where
   pub part-long : length (part t (now (b .entries))) ≡ 32
   part-long =
       let whole : length (now (b .entries)) ≡ 32 * length (now (b .records)) =
-          entries-long (length (now (b .words))) (length (now (b .records))) (length (now (b .entries))) (length (now (b .reads))) (length (now (b .writes))) (has .fits) in
+      entries-long (length (now (b .words))) (length (now (b .records))) (length (now (b .entries))) (length (now (b .reads))) (length (now (b .writes))) (has .fits) in
       let inside : t < length (now (b .records)) = has .thread in
       simp (length-take, length-drop) (omega arith)
 

@@ -6,13 +6,14 @@ use denote.Ref.{now}
 use lib.ListN.{length, getD, take}
 use Rattle.std.specs.declared.option.Option.the-variants.{None}
 use Rattle.signature.specs.declared.Signature.{Ghosts}
+use Rattle.write_buffer.specs.Buffers.{all-below}
 use Rattle.board.specs.declared.parts.Board.{Board}
-use Rattle.board.specs.declared.phase.Phase.{Phase}
-use Rattle.board.specs.declared.phase.Phase.the-variants.{Validating}
-use Rattle.board.specs.declared.record.Record.{Record}
-use Rattle.board.specs.Limits.{phase-of, repeats-as}
-use Rattle.board.specs.Records.{Read-from}
-use Rattle.board.specs.Refusals.{Call, all-below, refusal}
+use Rattle.thread_record.specs.declared.phase.Phase.{Phase}
+use Rattle.thread_record.specs.declared.phase.Phase.the-variants.{Validating}
+use Rattle.thread_record.specs.declared.record.Record.{Record}
+use Rattle.thread_record.specs.Limits.{phase-of, repeats-as}
+use Rattle.thread_record.specs.Records.{Read-from}
+use Rattle.board.specs.Refusals.{Call, refusal}
 use Rattle.board.specs.Views.{blank, fits-of, part, view}
 
 module _ {R W : Type 0} where

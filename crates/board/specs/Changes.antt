@@ -10,10 +10,11 @@ use Rattle.std.specs.declared.option.Option.the-variants.{Some}
 use Rattle.std.specs.declared.result.Result.{Result}
 use Rattle.std.specs.declared.result.Result.the-variants.{Ok, Err}
 use Rattle.signature.specs.declared.Signature.{Ghosts}
-use Rattle.board.specs.declared.entry.Entry.{Entry}
+use Rattle.write_buffer.specs.declared.entry.Entry.{Entry}
+use Rattle.conflict.specs.Conflicts.{other}
 use Rattle.board.specs.declared.parts.Board.{Board}
-use Rattle.board.specs.declared.plain.PlainRecord.{PlainRecord}
-use Rattle.board.specs.Requests.{Leaves, Requested, effect-on, nacker, other}
+use Rattle.thread_record.specs.declared.plain.PlainRecord.{PlainRecord}
+use Rattle.board.specs.Requests.{Leaves, Requested, effect-on, nacker}
 use Rattle.board.specs.States.{Only, Thread}
 use Rattle.board.specs.Views.{Same-parts, part, view}
 

@@ -1,11 +1,5 @@
-pub mod Accesses
 pub mod Admissions
-pub mod Buffers
-pub mod Cases
 pub mod Changes
-pub mod Limits
-pub mod Phases
-pub mod Records
 pub mod Refusals
 pub mod Requests
 pub mod Rules

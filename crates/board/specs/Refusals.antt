@@ -1,5 +1,5 @@
 -- When a call is refused, and with what. Assumes nothing.
-use mathlib.Core.Bool.{Bool, true, cond, not, _&&_, _||_}
+use mathlib.Core.Bool.{not, _&&_}
 use mathlib.Core.List.{List, [], _∷_}
 use Prim.Native.Nat.{ℕ}
 use lib.Dec.{eqb, ltb}
@@ -7,16 +7,15 @@ use lib.ListN.{length}
 use Rattle.std.specs.Options.{isSome}
 use Rattle.std.specs.declared.option.Option.{Option}
 use Rattle.std.specs.declared.option.Option.the-variants.{Some, None}
-use Rattle.std.specs.declared.result.Result.{Result}
-use Rattle.std.specs.declared.result.Result.the-variants.{Ok, Err}
 use Rattle.signature.specs.declared.Signature.{Ghosts}
-use Rattle.board.specs.declared.entry.Entry.{Entry}
-use Rattle.board.specs.declared.phase.Phase.{Phase}
-use Rattle.board.specs.declared.refusal.Refusal.{Refusal}
-use Rattle.board.specs.Cases.{Case, case, refusal-case}
-use Rattle.board.specs.Phases.{phase-number, is-idle, is-running, is-committing, is-live, is-aborted}
+use Rattle.thread_record.specs.Phases.{is-idle, is-running, is-committing, is-live}
+use Rattle.write_buffer.specs.declared.entry.Entry.{Entry}
+use Rattle.write_buffer.specs.Buffers.{all-below, lookup}
+use Rattle.conflict.specs.Conflicts.{line}
+use Rattle.refusal.specs.Cases.{Case}
+use Rattle.refusal.specs.Rows.{nack-row, phase-row, phase-rows, read-row, row}
 use Rattle.board.specs.Requests.{nacker}
-use Rattle.board.specs.States.{State, line, lookup}
+use Rattle.board.specs.States.{State}
 
 -- a call, with its arguments: a thread, an address, a word
 pub data Call : Type 0 where
@@ -26,41 +25,9 @@ pub data Call : Type 0 where
   plain-read : ℕ → Call
   plain-write : ℕ → ℕ → Call
 
--- each entry's address is below the size
-abbrev pub all-below : ℕ → List Entry → Bool
-all-below size [] = true
-all-below size (e ∷ es) = ltb (e .address) size && all-below size es
-
--- a row of the table: refused where the condition holds; where it does not, the rows after it decide
-abbrev pub row : Bool → ℕ → List ℕ → Option Case → Option Case
-row condition number values after = cond condition (Some (case number values)) after
-
--- what some rows decided, before those after them: a refusal stands
-abbrev pub decided : {X : Type 0} → Result X Refusal → Option Case → Option Case
-decided (Ok x) after = after
-decided (Err f) after = Some (refusal-case f)
-
--- the phase is neither one that the call allows nor Aborted, which has a row of its own
-abbrev pub phase-row : (Phase → Bool) → Phase → Option Case → Option Case
-phase-row allows p after = row (not (allows p || is-aborted p)) 5 (phase-number p ∷ []) after
-
--- the rows on the phase of thread t, for a call that an aborted thread may not make
-abbrev pub phase-rows : (Phase → Bool) → Phase → ℕ → Option Case → Option Case
-phase-rows allows p t after = phase-row allows p (row (is-aborted p) 6 (t ∷ []) after)
-
 -- no room for one more address
 abbrev pub full-row : List Entry → ℕ → ℕ → Option Case → Option Case
 full-row buffer t a after = row (eqb (length buffer) 32 && not (isSome (lookup buffer a))) 7 (t ∷ []) after
-
--- the thread that nacks, if one does
-abbrev pub nack-row : Option ℕ → Option Case
-nack-row None = None
-nack-row (Some j) = Some (case 8 (j ∷ []))
-
--- a read makes a request only for an address that the thread has not written
-abbrev pub read-row : Option ℕ → Option ℕ → Option Case
-read-row None nacking = nack-row nacking
-read-row (Some v) nacking = None
 
 module _ {R W : Type 0} (s : State R W) where
   -- the parts, for every call

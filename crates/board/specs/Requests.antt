@@ -3,17 +3,16 @@ use mathlib.Core.Path.{_≡_}
 use mathlib.Core.Bool.{Bool, true, false, cond, _&&_}
 use mathlib.Core.List.{List, [], _∷_}
 use Prim.Native.Nat.{ℕ, _+_, _<_}
-use lib.Dec.{eqb}
 use Rattle.std.specs.Iters.{counting}
 use Rattle.std.specs.declared.option.Option.{Option}
 use Rattle.std.specs.declared.option.Option.the-variants.{Some, None}
 use Rattle.signature.specs.Meaning.{Emptied}
 use Rattle.signature.specs.declared.Signature.{Ghosts}
-use Rattle.board.specs.declared.effect.Effect.{Effect}
-use Rattle.board.specs.declared.effect.Effect.the-variants.{Stays, Repeats, Aborts}
-use Rattle.board.specs.declared.phase.Phase.{Phase}
-use Rattle.board.specs.declared.phase.Phase.the-variants.{Idle, Running, Validating, Copying, Aborted}
-use Rattle.board.specs.Phases.{is-copying}
+use Rattle.conflict.specs.declared.effect.Effect.{Effect}
+use Rattle.conflict.specs.declared.effect.Effect.the-variants.{Stays, Repeats, Aborts}
+use Rattle.thread_record.specs.declared.phase.Phase.{Phase}
+use Rattle.thread_record.specs.declared.phase.Phase.the-variants.{Aborted}
+use Rattle.conflict.specs.Conflicts.{effect, nacks-in, other}
 use Rattle.board.specs.States.{State, Thread, Same-shape, stored}
 
 -- the first of the numbers that passes a test
@@ -21,32 +20,15 @@ abbrev pub first : (ℕ → Bool) → List ℕ → Option ℕ
 first test [] = None
 first test (n ∷ ns) = cond (test n) (Some n) (first test ns)
 
--- whether a thread is another one than the requester, which may be nobody
-abbrev pub other : Option ℕ → ℕ → Bool
-other None u = true
-other (Some t) u = cond (eqb u t) false true
-
--- to repeat, unless there were four repeats already
-abbrev pub again : ℕ → Effect
-again repeats = cond (eqb repeats 4) Aborts Repeats
-
--- what a request that nobody nacked does to another thread, by its phase, its repeats, and whether its read and its write signature hit
-abbrev pub effect : Bool → Phase → ℕ → Bool → Bool → Effect
-effect exclusive Idle repeats read-hit write-hit = Stays
-effect exclusive Running repeats read-hit write-hit = cond (exclusive && read-hit) Aborts Stays
-effect exclusive Validating repeats read-hit write-hit = cond (exclusive && read-hit) Aborts (cond write-hit (again repeats) Stays)
-effect exclusive Copying repeats read-hit write-hit = Stays
-effect exclusive Aborted repeats read-hit write-hit = Stays
-
 -- a thread back at its first entry, with one repeat more
 abbrev pub rewound : {R W : Type 0} → Thread R W → Thread R W
 rewound x = stored (x .phase) (x .buffer) 0 (x .repeats + 1) (x .area) (x .reads) (x .writes)
 
 -- r and w are the kinds of the two rows of signatures, by their ghost members
 module _ {R W : Type 0} (r : Ghosts R) (w : Ghosts W) where
-  -- a thread that is copying, and whose write signature hits, nacks the others
+  -- another thread nacks
   abbrev pub nacks : State R W → Option ℕ → ℕ → ℕ → Bool
-  nacks s who l u = other who u && (is-copying (s .thread u .phase) && w .has (s .thread u .writes) l)
+  nacks s who l u = other who u && nacks-in (s .thread u .phase) (w .has (s .thread u .writes) l)
 
   -- the lowest thread that nacks a request
   unfoldable pub nacker : State R W → Option ℕ → ℕ → Option ℕ

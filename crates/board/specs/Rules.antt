@@ -9,15 +9,17 @@ use Rattle.std.specs.declared.result.Result.{Result}
 use Rattle.std.specs.declared.result.Result.the-variants.{Ok, Err}
 use Rattle.signature.specs.Meaning.{Emptied, Inserted}
 use Rattle.signature.specs.declared.Signature.{Ghosts}
-use Rattle.board.specs.declared.entry.Entry.{Entry}
-use Rattle.board.specs.declared.phase.Phase.the-variants.{Idle, Running, Validating, Copying, Aborted}
-use Rattle.board.specs.declared.refusal.Refusal.{Refusal}
-use Rattle.board.specs.declared.stepped.Stepped.{Stepped}
-use Rattle.board.specs.declared.stepped.Stepped.the-variants.{Fetched, Repeated, Lost, Passed, Copied, Ended}
-use Rattle.board.specs.Cases.{Case, refusal-case, step-case}
+use Rattle.write_buffer.specs.declared.entry.Entry.{Entry}
+use Rattle.thread_record.specs.declared.phase.Phase.the-variants.{Idle, Running, Validating, Copying, Aborted}
+use Rattle.refusal.specs.declared.refusal.Refusal.{Refusal}
+use Rattle.refusal.specs.declared.stepped.Stepped.{Stepped}
+use Rattle.refusal.specs.declared.stepped.Stepped.the-variants.{Fetched, Repeated, Lost, Passed, Copied, Ended}
+use Rattle.refusal.specs.Cases.{Case, refusal-case, step-case}
+use Rattle.conflict.specs.Conflicts.{line}
+use Rattle.write_buffer.specs.Buffers.{fronted, lookup, placed}
 use Rattle.board.specs.Refusals.{Call, begin, commit, step, abandon, read, write, plain-read, plain-write, refusal}
 use Rattle.board.specs.Requests.{Cleared, Requested, nacker, rewound}
-use Rattle.board.specs.States.{State, Thread, Only, Same-shape, line, lookup, placed, fronted, at, stored}
+use Rattle.board.specs.States.{State, Thread, Only, Same-shape, at, stored}
 
 -- a call with its answer
 pub data Event : Type 0 where

@@ -1,16 +1,14 @@
 -- A board as the rules speak of it. Assumes nothing.
 use mathlib.Core.Path.{_≡_}
 use mathlib.Core.Bool.{Bool, cond}
-use mathlib.Core.List.{List, [], _∷_, _++_}
-use Prim.Native.Nat.{ℕ, _/_, _<_}
+use mathlib.Core.List.{List}
+use Prim.Native.Nat.{ℕ, _<_}
 use lib.Dec.{eqb}
-use lib.ListN.{length, drop}
-use Rattle.std.specs.declared.option.Option.{Option}
-use Rattle.std.specs.declared.option.Option.the-variants.{Some, None}
-use Rattle.board.specs.declared.entry.Entry.{Entry}
-use Rattle.board.specs.declared.phase.Phase.{Phase}
-use Rattle.board.specs.declared.plain.PlainRecord.{PlainRecord}
-use Rattle.board.specs.Phases.{phase-number}
+use lib.ListN.{length}
+use Rattle.write_buffer.specs.declared.entry.Entry.{Entry}
+use Rattle.thread_record.specs.declared.phase.Phase.{Phase}
+use Rattle.thread_record.specs.declared.plain.PlainRecord.{PlainRecord}
+use Rattle.thread_record.specs.Phases.{phase-number}
 
 -- a thread: its plain record and its part of the entry area; what is read of these, the buffer being the counted entries; and its two signatures
 pub record Thread (R W : Type 0) : Type 0 where
@@ -44,24 +42,6 @@ pub record State (R W : Type 0) : Type 0 where
   pub threads : ℕ
   pub words : ℕ → ℕ
   pub thread : ℕ → Thread R W
-
--- the line of an address
-abbrev pub line : ℕ → ℕ
-line a = a / 8
-
--- the word of the first entry with an address
-abbrev pub lookup : List Entry → ℕ → Option ℕ
-lookup [] a = None
-lookup (e ∷ es) a = cond (eqb (e .address) a) (Some (e .word)) (lookup es a)
-
--- the first entry with the address takes the word, or a new entry at the end does
-abbrev pub placed : List Entry → ℕ → ℕ → List Entry
-placed [] a v = record { address = a; word = v } ∷ []
-placed (e ∷ es) a v = cond (eqb (e .address) a) (record { address = a; word = v } ∷ es) (e ∷ placed es a v)
-
--- an area whose front is the buffer; entries beyond it stay
-abbrev pub fronted : List Entry → List Entry → List Entry
-fronted buffer area = buffer ++ drop (length buffer) area
 
 -- the words with the one at an address replaced
 abbrev pub at : (ℕ → ℕ) → ℕ → ℕ → ℕ → ℕ

@@ -11,12 +11,13 @@ use Rattle.std.specs.declared.option.Option.the-variants.{None}
 use Rattle.std.specs.declared.result.Result.{Result}
 use Rattle.std.specs.declared.result.Result.the-variants.{Ok, Err}
 use Rattle.signature.specs.declared.Signature.{Ghosts}
-use Rattle.board.specs.declared.entry.Entry.{Entry}
+use Rattle.write_buffer.specs.declared.entry.Entry.{Entry}
+use Rattle.refusal.specs.Rows.{decided}
 use Rattle.board.specs.declared.parts.Board.{Board}
-use Rattle.board.specs.declared.plain.PlainRecord.{PlainRecord}
-use Rattle.board.specs.declared.refusal.Refusal.{Refusal}
-use Rattle.board.specs.Limits.{phase-of, count-as, cursor-as, repeats-as}
-use Rattle.board.specs.Refusals.{Call, decided, parts-row}
+use Rattle.thread_record.specs.declared.plain.PlainRecord.{PlainRecord}
+use Rattle.refusal.specs.declared.refusal.Refusal.{Refusal}
+use Rattle.thread_record.specs.Limits.{phase-of, count-as, cursor-as, repeats-as}
+use Rattle.board.specs.Refusals.{Call, parts-row}
 use Rattle.board.specs.Rules.{Event, Rule, Opened, answered}
 use Rattle.board.specs.States.{State, Thread}
 

@@ -1,16 +1,22 @@
 // The small changes that the calls are made of.
 ghost use mathlib.Core.Path.{_≡_};
 ghost use Prim.Native.Nat.{_+_, _*_, _≤_, _<_};
-ghost use lib.ListN.{length, getD};
+ghost use lib.ListN.{length, getD, set};
 ghost use Rattle.signature.specs.Meaning.{Emptied, Inserted};
 ghost use Rattle.board.specs.Changes.{Record-stored, Reads-turned, Writes-turned, Word-stored, Entry-stored};
-ghost use Rattle.board.specs.Records.{plain-of};
-use crate::buffer::put;
-use crate::entry::Entry;
+ghost use Rattle.thread_record.specs.Records.{plain-of};
 use crate::parts::Board;
-use crate::reading::plain_of;
-use crate::record::Record;
 use signature::Signature;
+use thread_record::Record;
+use thread_record::reading::plain_of;
+use write_buffer::Entry;
+
+fn put(area: &mut [Entry], at: usize, entry: Entry)
+    requires { ⌜ at < length (now area) ⌝ }
+    ensures { λ _. ⌜ now (area .exit) ≡ set (now (area .entry)) at entry ⌝ }
+{
+    area[at] = entry;
+}
 
 impl<'w, 'r, 'e, 's, 'x, R: Signature, W: Signature> Board<'w, 'r, 'e, 's, 'x, R, W> {
     pub(crate) fn store_record(&mut self, t: usize, record: Record)

@@ -1,69 +1,25 @@
 // The rows of the refusal table, from the top down.
 ghost use mathlib.Core.Path.{_≡_};
-ghost use mathlib.Core.Bool.{Bool, true};
+ghost use mathlib.Core.Bool.{true};
 ghost use Prim.Native.Nat.{ℕ, _+_, _*_, _≤_, _<_};
 ghost use lib.ListN.{length, getD, take};
-ghost use mathlib.Core.List.{[], _∷_};
-ghost use lib.Dec.{eqb};
 ghost use Rattle.std.specs.Vec.{made};
 ghost use Rattle.std.specs.declared.option.Option.{Option};
-ghost use Rattle.board.specs.declared.phase.Phase.the-variants.{Running};
+ghost use Rattle.thread_record.specs.declared.phase.Phase.the-variants.{Running};
+ghost use Rattle.refusal.specs.Rows.{decided, phase-rows};
 ghost use Rattle.board.specs.Admissions.{Addressed, Admitted};
-ghost use Rattle.board.specs.Cases.{Case};
-ghost use Rattle.board.specs.Phases.{is-idle, is-running, is-live};
-ghost use Rattle.board.specs.Refusals.{decided, row, phase-row, phase-rows, parts-row, thread-rows, address-row};
+ghost use Rattle.refusal.specs.Cases.{Case};
+ghost use Rattle.thread_record.specs.Phases.{is-running};
+ghost use Rattle.board.specs.Refusals.{parts-row, thread-rows, address-row};
 ghost use Rattle.board.specs.Views.{fits-of, part, view};
-use crate::buffer::are_below;
-use crate::entry::Entry;
 use crate::parts::Board;
-use crate::phase::Phase;
-use crate::reading::record_of;
-use crate::record::Record;
-use crate::refusal::Refusal;
+use refusal::Refusal;
+use refusal::rows::check_running;
 use signature::Signature;
-
-pub(crate) fn check_idle(phase: Phase, thread: u32) -> Result<(), Refusal>
-    ensures { λ r. ⌜ ((after : Option Case) → decided r after ≡ phase-rows is-idle phase thread after) ⌝ }
-{
-    match phase {
-        Phase::Idle => Ok(()),
-        Phase::Aborted => Err(Refusal::Aborted(thread)),
-        Phase::Running | Phase::Validating | Phase::Copying => Err(Refusal::WrongPhase(phase)),
-    }
-}
-
-pub(crate) fn check_running(phase: Phase, thread: u32) -> Result<(), Refusal>
-    ensures decides { λ r. ⌜ ((after : Option Case) → decided r after ≡ phase-rows is-running phase thread after) ⌝ }
-    ensures accepts { λ r. ⌜ made r (λ _. phase ≡ Running) ⌝ }
-{
-    match phase {
-        Phase::Running => Ok(()),
-        Phase::Aborted => Err(Refusal::Aborted(thread)),
-        Phase::Idle | Phase::Validating | Phase::Copying => Err(Refusal::WrongPhase(phase)),
-    }
-}
-
-// An aborted thread may be abandoned too.
-pub(crate) fn check_abandonable(phase: Phase) -> Result<(), Refusal>
-    ensures { λ r. ⌜ ((after : Option Case) → decided r after ≡ phase-row is-live phase after) ⌝ }
-{
-    match phase {
-        Phase::Running | Phase::Validating | Phase::Aborted => Ok(()),
-        Phase::Idle | Phase::Copying => Err(Refusal::WrongPhase(phase)),
-    }
-}
-
-// No room for one more address: its place would be beyond the area.
-pub(crate) fn check_room(place: usize, thread: u32) -> Result<(), Refusal>
-    ensures decides { λ r. ⌜ ((after : Option Case) → decided r after ≡ row (eqb place 32) 7 (thread ∷ []) after) ⌝ }
-    ensures accepts { λ r. ⌜ made r (λ _. place ≡ 32 → ⊥) ⌝ }
-{
-    if place == 32 {
-        Err(Refusal::BufferFull(thread))
-    } else {
-        Ok(())
-    }
-}
+use thread_record::Record;
+use thread_record::reading::record_of;
+use write_buffer::Entry;
+use write_buffer::scan::are_below;
 
 impl<'w, 'r, 'e, 's, 'x, R: Signature, W: Signature> Board<'w, 'r, 'e, 's, 'x, R, W> {
     fn fits(&self) -> bool

@@ -1,22 +1,12 @@
 // The word board: transactions over words, with signatures to notice conflicts.
-pub mod access;
-mod buffer;
 mod changes;
 mod checks;
-pub mod effect;
-pub mod entry;
-mod line;
 mod opening;
-pub mod parts;
-pub mod phase;
-pub mod plain;
+mod parts;
 mod plain_access;
-pub mod reading;
-pub mod record;
-pub mod refusal;
 mod request;
 mod step;
-pub mod stepped;
 mod threads;
 mod transaction;
-mod transitions;
+
+pub use crate::parts::Board;

@@ -1,7 +1,7 @@
 // Opening a board.
 ghost use Rattle.board.specs.Views.{Opens};
 use crate::parts::Board;
-use crate::refusal::Refusal;
+use refusal::Refusal;
 use signature::Signature;
 
 impl<'w, 'r, 'e, 's, 'x, R: Signature, W: Signature> Board<'w, 'r, 'e, 's, 'x, R, W> {

@@ -1,6 +1,6 @@
 // The parts of a board, as the caller lends them to each call.
-use crate::entry::Entry;
-use crate::plain::PlainRecord;
+use thread_record::PlainRecord;
+use write_buffer::Entry;
 
 #[derive(Drop)]
 pub struct Board<'w, 'r, 'e, 's, 'x, R, W> {

@@ -2,10 +2,10 @@
 ghost use Rattle.board.specs.Refusals.{plain-read, plain-write};
 ghost use Rattle.board.specs.Rules.{plain-got, plain-put};
 ghost use Rattle.board.specs.Views.{Called};
-use crate::access::Access;
-use crate::line::line_of;
 use crate::parts::Board;
-use crate::refusal::Refusal;
+use conflict::Access;
+use conflict::line::line_of;
+use refusal::Refusal;
 use signature::Signature;
 
 impl<'w, 'r, 'e, 's, 'x, R: Signature, W: Signature> Board<'w, 'r, 'e, 's, 'x, R, W> {

@@ -1,18 +1,18 @@
 // The steps of a commit: fetch, pass, copy, end.
 ghost use Prim.Native.Nat.{_≤_, _<_};
-ghost use Rattle.board.specs.declared.phase.Phase.the-variants.{Validating, Copying};
+ghost use Rattle.thread_record.specs.declared.phase.Phase.the-variants.{Validating, Copying};
 ghost use Rattle.board.specs.Admissions.{Ready};
 ghost use Rattle.board.specs.Refusals.{step};
 ghost use Rattle.board.specs.Rules.{step-event};
 ghost use Rattle.board.specs.Views.{Called, Done};
-use crate::access::Access;
-use crate::line::line_of;
 use crate::parts::Board;
-use crate::phase::Phase;
-use crate::record::Record;
-use crate::refusal::Refusal;
-use crate::stepped::Stepped;
+use conflict::Access;
+use conflict::line::line_of;
+use refusal::Refusal;
+use refusal::Stepped;
 use signature::Signature;
+use thread_record::Phase;
+use thread_record::Record;
 
 impl<'w, 'r, 'e, 's, 'x, R: Signature, W: Signature> Board<'w, 'r, 'e, 's, 'x, R, W> {
     pub fn step(&mut self, thread: u32) -> Result<Stepped, Refusal>

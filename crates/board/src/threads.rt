@@ -1,14 +1,14 @@
 // A thread as a whole: cleared, or sent back to its first entry.
 ghost use mathlib.Core.Path.{_≡_};
-ghost use Rattle.board.specs.declared.phase.Phase.the-variants.{Idle, Running, Aborted};
+ghost use Rattle.thread_record.specs.declared.phase.Phase.the-variants.{Idle, Running, Aborted};
 ghost use Rattle.board.specs.Admissions.{Has, Repeatable};
 ghost use Rattle.board.specs.Changes.{Turns};
 ghost use Rattle.board.specs.Requests.{Cleared, rewound};
 use crate::parts::Board;
-use crate::phase::Phase;
-use crate::reading::record_of;
-use crate::record::Record;
 use signature::Signature;
+use thread_record::Phase;
+use thread_record::Record;
+use thread_record::reading::record_of;
 
 impl<'w, 'r, 'e, 's, 'x, R: Signature, W: Signature> Board<'w, 'r, 'e, 's, 'x, R, W> {
     // Sets a phase with nothing counted, and resets both signatures.

@@ -2,19 +2,19 @@
 ghost use Rattle.board.specs.Refusals.{begin, read, write, commit, abandon};
 ghost use Rattle.board.specs.Rules.{began, got, put, committed, abandoned};
 ghost use Rattle.board.specs.Views.{Called};
-use crate::access::Access;
-use crate::buffer::look_up;
-use crate::buffer::place_of;
-use crate::checks::check_abandonable;
-use crate::checks::check_idle;
-use crate::checks::check_room;
-use crate::checks::check_running;
-use crate::entry::Entry;
-use crate::line::line_of;
 use crate::parts::Board;
-use crate::record::Record;
-use crate::refusal::Refusal;
+use conflict::Access;
+use conflict::line::line_of;
+use refusal::Refusal;
+use refusal::rows::check_abandonable;
+use refusal::rows::check_idle;
+use refusal::rows::check_room;
+use refusal::rows::check_running;
 use signature::Signature;
+use thread_record::Record;
+use write_buffer::Entry;
+use write_buffer::scan::look_up;
+use write_buffer::scan::place_of;
 
 impl<'w, 'r, 'e, 's, 'x, R: Signature, W: Signature> Board<'w, 'r, 'e, 's, 'x, R, W> {
     pub fn begin(&mut self, thread: u32) -> Result<(), Refusal>

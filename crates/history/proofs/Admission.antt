@@ -8,11 +8,12 @@ use Rattle.std.specs.declared.option.Option.{Option}
 use Rattle.std.specs.declared.option.Option.the-variants.{None}
 use Rattle.std.proofs.shelf.Tests.{both-ways, ltb-true, not-false}
 use Rattle.signature.specs.declared.Signature.{Ghosts}
-use Rattle.board.specs.declared.phase.Phase.{Phase}
-use Rattle.board.specs.declared.phase.Phase.the-variants.{Idle, Running, Validating, Copying, Aborted}
-use Rattle.board.specs.Cases.{Case}
-use Rattle.board.specs.Phases.{is-idle, is-running, is-live, is-aborted}
-use Rattle.board.specs.Refusals.{begin, commit, step, abandon, read, write, row, phase-rows, thread-rows, refusal}
+use Rattle.thread_record.specs.declared.phase.Phase.{Phase}
+use Rattle.thread_record.specs.declared.phase.Phase.the-variants.{Idle, Running, Validating, Copying, Aborted}
+use Rattle.refusal.specs.Cases.{Case}
+use Rattle.thread_record.specs.Phases.{is-idle, is-running, is-live, is-aborted}
+use Rattle.refusal.specs.Rows.{phase-rows, row}
+use Rattle.board.specs.Refusals.{begin, commit, step, abandon, read, write, thread-rows, refusal}
 use Rattle.board.specs.States.{State}
 use Rattle.history.proofs.Invariant.{Copies, copies-is}
 

@@ -11,10 +11,10 @@ use lib.ListN.{length, getD, take, drop}
 use Rattle.std.specs.declared.option.Option.{Option}
 use Rattle.std.specs.declared.option.Option.the-variants.{Some, None}
 use Rattle.std.proofs.shelf.Tests.{eqb-true, eqb-false, eq-eqb, ne-eqb}
-use Rattle.board.specs.declared.entry.Entry.{Entry}
-use Rattle.board.specs.States.{lookup, placed}
+use Rattle.write_buffer.specs.declared.entry.Entry.{Entry}
 use Rattle.history.specs.Serial.{fresh}
 use Rattle.history.specs.Law.{Member, here, there}
+use Rattle.write_buffer.specs.Buffers.{lookup, placed}
 
 abbrev pub In : Entry → List Entry → Type 0
 In e [] = ⊥

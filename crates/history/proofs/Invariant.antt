@@ -8,14 +8,15 @@ use lib.Dec.{T}
 use lib.ListN.{take, drop}
 use Rattle.std.specs.Options.{isSome}
 use Rattle.std.proofs.shelf.Tests.{cases-eq}
-use Rattle.board.specs.declared.entry.Entry.{Entry}
-use Rattle.board.specs.declared.phase.Phase.{Phase}
-use Rattle.board.specs.declared.phase.Phase.the-variants.{Idle, Running, Validating, Copying, Aborted}
-use Rattle.board.specs.Phases.{is-live, is-committing, is-copying}
-use Rattle.board.specs.States.{line, lookup}
+use Rattle.write_buffer.specs.declared.entry.Entry.{Entry}
+use Rattle.thread_record.specs.declared.phase.Phase.{Phase}
+use Rattle.thread_record.specs.declared.phase.Phase.the-variants.{Idle, Running, Validating, Copying, Aborted}
+use Rattle.thread_record.specs.Phases.{is-live, is-committing, is-copying}
 use Rattle.history.specs.Serial.{Op, run, answers, written, targets}
 use Rattle.history.specs.Law.{Member}
 use Rattle.history.proofs.Buffers.{In, Distinct, addresses, over}
+use Rattle.conflict.specs.Conflicts.{line}
+use Rattle.write_buffer.specs.Buffers.{lookup}
 
 -- which phases read and write, copy words, hold a buffer, fetch lines
 abbrev pub Alive : Phase → Type 0

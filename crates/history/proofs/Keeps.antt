@@ -12,14 +12,15 @@ use Rattle.std.specs.declared.option.Option.the-variants.{Some, None}
 use Rattle.std.proofs.shelf.Tests.{cases-eq, eq-eqb, ne-eqb, both-ways}
 use Rattle.signature.specs.declared.Signature.{Ghosts}
 use Rattle.signature.specs.Meaning.{Inserted}
-use Rattle.board.specs.declared.entry.Entry.{Entry}
-use Rattle.board.specs.declared.phase.Phase.the-variants.{Running, Validating, Copying}
-use Rattle.board.specs.declared.stepped.Stepped.the-variants.{Fetched, Repeated, Lost, Passed, Copied, Ended}
+use Rattle.write_buffer.specs.declared.entry.Entry.{Entry}
+use Rattle.thread_record.specs.declared.phase.Phase.the-variants.{Running, Validating, Copying}
+use Rattle.refusal.specs.declared.stepped.Stepped.the-variants.{Fetched, Repeated, Lost, Passed, Copied, Ended}
+use Rattle.conflict.specs.Conflicts.{line, other}
+use Rattle.write_buffer.specs.Buffers.{lookup}
 use Rattle.board.specs.Refusals.{read, refusal}
-use Rattle.board.specs.Requests.{Requested, other}
-use Rattle.board.specs.Rules.{Event, began, committed, abandoned, got, put, plain-put, step-event, with-reads, At-cursor, Stores}
-use Rattle.board.specs.Rules.{Rule, refuses, begins, reads-own, reads-memory, writes-word, commits, fetches, is-nacked, is-lost, passes, copies, ends, abandons, reads-plain, writes-plain}
-use Rattle.board.specs.States.{State, Thread, Only, line, lookup, at, stored}
+use Rattle.board.specs.Requests.{Requested}
+use Rattle.board.specs.Rules.{Event, began, committed, abandoned, got, put, plain-put, step-event, with-reads, At-cursor, Stores, Rule, refuses, begins, reads-own, reads-memory, writes-word, commits, fetches, is-nacked, is-lost, passes, copies, ends, abandons, reads-plain, writes-plain}
+use Rattle.board.specs.States.{State, Thread, Only, at, stored}
 use Rattle.history.specs.Serial.{run, list, serial-words, written}
 use Rattle.history.specs.Runs.{fed, heard, loads, to-copy, steps}
 use Rattle.history.specs.Law.{Member}

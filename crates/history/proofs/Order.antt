@@ -4,8 +4,7 @@ use mathlib.Core.Path.{refl, ap, subst}
 use mathlib.Core.Logic.{inl, inr}
 use mathlib.Core.List.{List, [], _∷_}
 use Rattle.signature.specs.declared.Signature.{Ghosts}
-use Rattle.board.specs.Rules.{Event, Opened}
-use Rattle.board.specs.Rules.{Rule, refuses, begins, reads-own, reads-memory, writes-word, commits, fetches, is-nacked, is-lost, passes, copies, ends, abandons, reads-plain, writes-plain}
+use Rattle.board.specs.Rules.{Event, Opened, Rule, refuses, begins, reads-own, reads-memory, writes-word, commits, fetches, is-nacked, is-lost, passes, copies, ends, abandons, reads-plain, writes-plain}
 use Rattle.board.specs.States.{State, Thread}
 use Rattle.history.specs.Serial.{serial-words}
 use Rattle.history.specs.Runs.{Run, opened, called, fed}

@@ -11,11 +11,12 @@ use Rattle.std.specs.declared.option.Option.{Option}
 use Rattle.std.specs.declared.option.Option.the-variants.{Some, None}
 use Rattle.std.proofs.shelf.Tests.{cases-bool, cases-eq, both-ways, and-cases}
 use Rattle.signature.specs.declared.Signature.{Ghosts}
-use Rattle.board.specs.declared.effect.Effect.{Effect}
-use Rattle.board.specs.declared.effect.Effect.the-variants.{Stays, Repeats, Aborts}
-use Rattle.board.specs.declared.phase.Phase.{Phase}
-use Rattle.board.specs.declared.phase.Phase.the-variants.{Idle, Running, Validating, Copying, Aborted}
-use Rattle.board.specs.Requests.{Cleared, Leaves, Requested, again, effect, first, nacker, nacks, other}
+use Rattle.conflict.specs.declared.effect.Effect.{Effect}
+use Rattle.conflict.specs.declared.effect.Effect.the-variants.{Stays, Repeats, Aborts}
+use Rattle.thread_record.specs.declared.phase.Phase.{Phase}
+use Rattle.thread_record.specs.declared.phase.Phase.the-variants.{Idle, Running, Validating, Copying, Aborted}
+use Rattle.conflict.specs.Conflicts.{again, effect, nacks-in, other}
+use Rattle.board.specs.Requests.{Cleared, Leaves, Requested, first, nacker, nacks}
 use Rattle.board.specs.States.{State, Thread}
 use Rattle.history.proofs.Buffers.{In, in-take}
 use Rattle.history.proofs.Invariant.{Alive, Copies, Holds, Fetches, Seen, Part, Sound, Off, Apart, Weaker, same, sent-back, aborted, aborted-holds}
@@ -93,12 +94,15 @@ module _ {R W : Type 0} (r : Ghosts R) (w : Ghosts W) where
     -- no other thread that copies has the line
     pub unnacked : (u : ℕ) → u < s .threads → other who u ≡ true → Copies (s .thread u .phase) → w .has (s .thread u .writes) l ≡ false
     unfolding nacker
-    unnacked u h o c = go _ _ _ o c (none-first (nacks r w s who l) 0 (s .threads) u (q .free) (omega arith) (omega arith))
+    unnacked u h o c = go (other who u) (s .thread u .phase) (w .has (s .thread u .writes) l) o c (none-first (nacks r w s who l) 0 (s .threads) u (q .free) (omega arith) (omega arith))
       where
-        go : (a b hit : Bool) → a ≡ true → T b → (a && (b && hit)) ≡ false → hit ≡ false
-        go true true hit e c n = n
-        go true false hit e c n = absurd c
-        go false b hit e c n = absurd (both-ways false refl e)
+        go : (a : Bool) (p : Phase) (hit : Bool) → a ≡ true → Copies p → (a && nacks-in p hit) ≡ false → hit ≡ false
+        go false p hit e c n = absurd (both-ways false refl e)
+        go true Idle hit e c n = absurd c
+        go true Running hit e c n = absurd c
+        go true Validating hit e c n = absurd c
+        go true Copying hit e c n = n
+        go true Aborted hit e c n = absurd c
 
     requested : (u : ℕ) → u < s .threads → other who u ≡ true → Weaker (seen (s .thread u)) (seen (s₁ .thread u)) × Quiet k l (seen (s₁ .thread u))
     requested u h o = leaves k l _ _ (s .thread u .phase) refl (unnacked u h o) (q .others u h o)

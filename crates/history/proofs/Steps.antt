@@ -12,14 +12,15 @@ use Rattle.std.specs.Options.{isSome}
 use Rattle.std.specs.declared.option.Option.{Option}
 use Rattle.std.specs.declared.option.Option.the-variants.{Some, None}
 use Rattle.std.proofs.shelf.Tests.{cases-eq, eq-eqb, ne-eqb}
-use Rattle.board.specs.declared.entry.Entry.{Entry}
-use Rattle.board.specs.declared.phase.Phase.the-variants.{Running, Validating, Copying}
-use Rattle.board.specs.States.{line, lookup, placed, at}
+use Rattle.write_buffer.specs.declared.entry.Entry.{Entry}
+use Rattle.thread_record.specs.declared.phase.Phase.the-variants.{Running, Validating, Copying}
+use Rattle.conflict.specs.Conflicts.{line}
+use Rattle.write_buffer.specs.Buffers.{lookup, placed}
+use Rattle.board.specs.States.{at}
 use Rattle.history.specs.Serial.{get, set, run, fresh, targets, written}
 use Rattle.history.specs.Law.{Member}
 use Rattle.history.proofs.Ops.{run-append, answers-append, targets-append, written-append}
-use Rattle.history.proofs.Buffers.{In, addresses, over, lookup-placed, distinct-placed, addresses-placed, in-placed, lookup-in, in-lookup}
-use Rattle.history.proofs.Buffers.{length-addresses, member-cases, in-front, in-end, in-snoc, in-drop, in-take-more}
+use Rattle.history.proofs.Buffers.{In, addresses, over, lookup-placed, distinct-placed, addresses-placed, in-placed, lookup-in, in-lookup, length-addresses, member-cases, in-front, in-end, in-snoc, in-drop, in-take-more}
 use Rattle.history.proofs.Invariant.{Alive, Copies, Fetches, Seen, moved, back, Part, did, went, with-th, Agrees, Kept, Left, Sound, Apart, Clear, Step}
 use Rattle.history.proofs.Requests.{Quiet, quiet-fetched, quiet-apart}
 

@@ -7,11 +7,11 @@ use Prim.Native.Nat.{ℕ, _+_, _<_}
 use lib.ListN.{length}
 use Rattle.std.specs.Orderings.{When}
 use Rattle.signature.specs.declared.Signature.{Ghosts}
-use Rattle.board.specs.declared.entry.Entry.{Entry}
-use Rattle.board.specs.declared.phase.Phase.the-variants.{Copying}
-use Rattle.board.specs.declared.stepped.Stepped.the-variants.{Passed, Ended}
-use Rattle.board.specs.Cases.{is}
-use Rattle.board.specs.Phases.{is-live}
+use Rattle.write_buffer.specs.declared.entry.Entry.{Entry}
+use Rattle.thread_record.specs.declared.phase.Phase.the-variants.{Copying}
+use Rattle.refusal.specs.declared.stepped.Stepped.the-variants.{Passed, Ended}
+use Rattle.refusal.specs.Cases.{is}
+use Rattle.thread_record.specs.Phases.{is-live}
 use Rattle.board.specs.Rules.{Event, began, committed, abandoned, got, put, stepped, plain-got, plain-put, refused}
 use Rattle.board.specs.States.{State}
 use Rattle.history.specs.Runs.{Run, fed, heard, loads, to-copy, steps}

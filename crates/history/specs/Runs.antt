@@ -5,9 +5,9 @@ use Prim.Native.Nat.{ℕ, _+_}
 use lib.Dec.{eqb}
 use lib.ListN.{drop}
 use Rattle.signature.specs.declared.Signature.{Ghosts}
-use Rattle.board.specs.declared.entry.Entry.{Entry}
-use Rattle.board.specs.declared.stepped.Stepped.the-variants.{Passed, Copied}
-use Rattle.board.specs.Cases.{is}
+use Rattle.write_buffer.specs.declared.entry.Entry.{Entry}
+use Rattle.refusal.specs.declared.stepped.Stepped.the-variants.{Passed, Copied}
+use Rattle.refusal.specs.Cases.{is}
 use Rattle.board.specs.Refusals.{begin, commit, step, abandon, read, write, plain-read, plain-write}
 use Rattle.board.specs.Rules.{Event, Rule, began, committed, abandoned, got, put, stepped, plain-got, plain-put, refused}
 use Rattle.board.specs.States.{State}

@@ -2,8 +2,8 @@
 ghost use Rattle.std.specs.Vec.{made};
 ghost use Rattle.board.specs.Views.{Opens, view};
 ghost use Rattle.history.specs.Law.{Serial-order};
-use board::parts::Board;
-use board::refusal::Refusal;
+use board::Board;
+use refusal::Refusal;
 use signature::Signature;
 
 // From the board that it leaves, any calls in any order account for themselves by the order in which transactions pass.

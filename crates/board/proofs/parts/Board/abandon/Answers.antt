@@ -1,7 +1,8 @@
 use mathlib.Core.Path.{sym, ap, _∙_}
 use Rattle.std.specs.declared.option.Option.the-variants.{None}
-use Rattle.board.specs.Phases.{is-live}
-use Rattle.board.specs.Refusals.{abandon, phase-row, refusal}
+use Rattle.thread_record.specs.Phases.{is-live}
+use Rattle.refusal.specs.Rows.{phase-row}
+use Rattle.board.specs.Refusals.{abandon, refusal}
 use Rattle.board.specs.Rules.{abandoned, abandons}
 use Rattle.board.specs.Views.{view}
 use Rattle.board.proofs.Outcomes.{passed-on}

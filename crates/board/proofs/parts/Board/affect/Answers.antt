@@ -1,4 +1,4 @@
-use Rattle.board.specs.Accesses.{is-exclusive}
+use Rattle.conflict.specs.Conflicts.{is-exclusive}
 use Rattle.board.proofs.Effects.{repeatable}
 use Rattle.board.proofs.parts.Board.affect.Needs as need
 

@@ -1,7 +1,8 @@
 use mathlib.Core.Path.{sym, ap, _∙_}
 use Rattle.std.specs.declared.option.Option.the-variants.{None}
-use Rattle.board.specs.Phases.{is-idle}
-use Rattle.board.specs.Refusals.{begin, phase-rows, refusal}
+use Rattle.thread_record.specs.Phases.{is-idle}
+use Rattle.refusal.specs.Rows.{phase-rows}
+use Rattle.board.specs.Refusals.{begin, refusal}
 use Rattle.board.specs.Rules.{began, begins}
 use Rattle.board.specs.Views.{view}
 use Rattle.board.proofs.Outcomes.{passed-on}

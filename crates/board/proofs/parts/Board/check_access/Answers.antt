@@ -1,6 +1,7 @@
 use mathlib.Core.Path.{_∙_}
-use Rattle.board.specs.Phases.{is-running}
-use Rattle.board.specs.Refusals.{address-row, phase-rows}
+use Rattle.thread_record.specs.Phases.{is-running}
+use Rattle.refusal.specs.Rows.{phase-rows}
+use Rattle.board.specs.Refusals.{address-row}
 use Rattle.board.specs.Views.{view}
 use Rattle.board.proofs.Outcomes.{decided-on, made-none}
 use Rattle.board.proofs.parts.Board.check_access.Needs as need

@@ -3,9 +3,10 @@ use borrow.Author.Needs.{needs}
 use denote.Ref.{now}
 use lib.ListN.{getD}
 use Rattle.std.specs.declared.option.Option.the-variants.{None}
-use Rattle.board.specs.declared.phase.Phase.the-variants.{Validating}
-use Rattle.board.specs.Phases.{is-running}
-use Rattle.board.specs.Refusals.{commit, phase-rows, refusal}
+use Rattle.thread_record.specs.declared.phase.Phase.the-variants.{Validating}
+use Rattle.thread_record.specs.Phases.{is-running}
+use Rattle.refusal.specs.Rows.{phase-rows}
+use Rattle.board.specs.Refusals.{commit, refusal}
 use Rattle.board.specs.Rules.{committed, commits}
 use Rattle.board.specs.States.{Only, stored}
 use Rattle.board.specs.Views.{part, view}

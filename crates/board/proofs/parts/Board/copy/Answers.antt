@@ -4,20 +4,18 @@ use native.Mathlib.Omega.{arith}
 use borrow.Author.Needs.{needs}
 use denote.Ref.{now}
 use lib.ListN.{length, getD}
-use Rattle.board.specs.declared.phase.Phase.the-variants.{Copying}
-use Rattle.board.specs.Limits.{cursor-limit, repeats-limit}
+use Rattle.thread_record.specs.declared.phase.Phase.the-variants.{Copying}
+use Rattle.thread_record.specs.Limits.{cursor-limit, repeats-limit}
 use Rattle.board.specs.Rules.{Stores, copies}
 use Rattle.board.specs.States.{Only}
 use Rattle.board.specs.Views.{blank, part, thread-of, view}
 use Rattle.board.proofs.Cursors.{at-cursor, moved, on-board, stored-then}
 use Rattle.board.proofs.Progress.{has-still}
+use Rattle.board.proofs.ReadBack.{min-left}
 use Rattle.board.proofs.parts.Board.copy.Needs as need
 
 pub store-word-requires : need.store-word-requires
 store-word-requires g c κs = on-board (c .args .thread) (c .args .before) (c .args .self .now) (c .pre .0 .admitted) (c .pre .1) (c .entry-at-entry .result) (c .entry-at-entry .ensures)
-
-pub advanced-requires : need.advanced-requires
-advanced-requires g c κs = subst (λ p. c .args .before .cursor < cursor-limit p (c .args .before .count)) (sym (c .pre .0 .phase)) (c .pre .1)
 
 pub returns : need.returns
 returns g c =
@@ -33,6 +31,8 @@ returns g c =
     let zero-repeats : before .repeats ≡ 0 = omega arith in
     let stored = c .store-word .ensures in
     let advanced = c .advanced .ensures in
+    let further : before .cursor + 1 ≤ before .count = omega (arith, c .pre .1) in
+    let room = subst (λ p. before .cursor + 1 ≤ cursor-limit p (before .count)) (sym (ready .phase)) further in
     let inside : entry .address < length (now (b .words)) = on-board t before b admitted (c .pre .1) entry (c .entry-at-entry .ensures) in
     let first : (d : g .R .Denot) (e : g .W .Denot) → Stores (entry .address) (entry .word) (view b d e) (view b₁ d e) = search needs in
     let then : (d : g .R .Denot) (e : g .W .Denot) → Only t (view b₁ d e .words) (view b₁ d e) (view b₂ d e) = search needs in
@@ -42,7 +42,7 @@ returns g c =
           (stored-then t (entry .address) (entry .word) (view b d e) (view b₁ d e) (view b₂ d e) (first d e) (then d e))
           (moved t before b admitted b₁ b₂ (c .advanced .result) Copying (view b d e .thread t .cursor + 1) 0 d e (has-still b b₁ t (stored .parts) (admitted .has))
           (λ i. thread-of (getD (stored .records i) t blank) (part t (stored .entries i)) (getD (stored .reads i) t d) (getD (stored .writes i) t e))
-          (record { phase = advanced .phase ∙ ready .phase; count = advanced .count; cursor = advanced .cursor ∙ ap (λ n. n + 1) (admitted .reads .cursor); repeats = advanced .repeats ∙ zero-repeats })
+          (record { phase = advanced .phase ∙ ready .phase; count = advanced .count; cursor = advanced .cursor ∙ min-left (before .cursor + 1) (cursor-limit (before .phase) (before .count)) room ∙ ap (λ n. n + 1) (admitted .reads .cursor); repeats = advanced .repeats ∙ zero-repeats })
           (c .store-record .ensures));
       parts = search needs;
     }

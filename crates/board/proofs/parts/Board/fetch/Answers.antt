@@ -1,31 +1,24 @@
 use mathlib.Core.Path.{_≡_, sym, ap, subst, _∙_}
 use mathlib.Core.Bool.{true}
-use Prim.Native.Nat.{_+_, _<_}
+use Prim.Native.Nat.{_+_, _≤_}
+use native.Mathlib.Omega.{arith}
 use borrow.Author.Needs.{needs}
-use denote.Ref.{now}
-use lib.ListN.{length}
 use Rattle.std.specs.declared.option.Option.the-variants.{Some}
-use Rattle.board.specs.declared.phase.Phase.the-variants.{Aborted, Validating}
+use Rattle.thread_record.specs.declared.phase.Phase.the-variants.{Aborted, Validating}
+use Rattle.conflict.specs.Conflicts.{line}
 use Rattle.board.specs.Admissions.{Has, Repeatable}
 use Rattle.board.specs.Changes.{Turns}
-use Rattle.board.specs.Limits.{cursor-limit}
+use Rattle.thread_record.specs.Limits.{cursor-limit}
 use Rattle.board.specs.Requests.{Cleared, Requested, nacker, rewound}
 use Rattle.board.specs.Rules.{fetches, is-lost, is-nacked}
-use Rattle.board.specs.States.{Only, line}
+use Rattle.board.specs.States.{Only}
 use Rattle.board.specs.Views.{view}
 use Rattle.board.proofs.Cursors.{at-cursor, moved, on-board}
 use Rattle.board.proofs.Loads.{own-not-other}
+use Rattle.board.proofs.Owns.{line-fits}
 use Rattle.board.proofs.Progress.{has-still, parts-then}
+use Rattle.board.proofs.ReadBack.{min-left}
 use Rattle.board.proofs.parts.Board.fetch.Needs as need
-
-pub line-of-requires : need.line-of-requires
-line-of-requires g c κs =
-    let inside : c .entry-at-entry .result .address < length (now (c .args .self .now .words)) =
-        on-board (c .args .thread) (c .args .before) (c .args .self .now) (c .pre .0 .admitted) (c .pre .1) (c .entry-at-entry .result) (c .entry-at-entry .ensures) in
-    search needs
-
-pub advanced-requires : need.advanced-requires
-advanced-requires g c κs = subst (λ p. c .args .before .cursor < cursor-limit p (c .args .before .count)) (sym (c .pre .0 .phase)) (c .pre .1)
 
 pub rewind-requires : need.rewind-requires
 rewind-requires g c κs =
@@ -44,8 +37,12 @@ returns-in-Ok g c =
     let b₂ = c .store-record .last .self in
     let ready = c .pre .0 in
     let admitted = ready .admitted in
+    let inside = on-board t before b admitted (c .pre .1) entry (c .entry-at-entry .ensures) in
+    let on-line = c .line-of .ensures ∙ line-fits b (admitted .has .fits) (entry .address) inside in
     let advanced = c .advanced .ensures in
-    let asked = subst (λ l. (d : g .R .Denot) (e : g .W .Denot) → Requested (g .R·Signature) (g .W·Signature) true (Some t) l (view b d e) (view b₁ d e)) (c .line-of .ensures) (c .in-Ok .ensures tt .0) in
+    let further : before .cursor + 1 ≤ before .count = omega (arith, c .pre .1) in
+    let room = subst (λ p. before .cursor + 1 ≤ cursor-limit p (before .count)) (sym (ready .phase)) further in
+    let asked = subst (λ l. (d : g .R .Denot) (e : g .W .Denot) → Requested (g .R·Signature) (g .W·Signature) true (Some t) l (view b d e) (view b₁ d e)) on-line (c .in-Ok .ensures tt .0) in
     let parts = c .in-Ok .ensures tt .1 in
     let only : (d : g .R .Denot) (e : g .W .Denot) → Only t (view b₁ d e .words) (view b₁ d e) (view b₂ d e) = search needs in
     record {
@@ -54,7 +51,7 @@ returns-in-Ok g c =
           (asked d e) (only d e)
           (moved t before b admitted b₁ b₂ (c .advanced .result) Validating (view b d e .thread t .cursor + 1) (view b d e .thread t .repeats) d e
           (has-still b b₁ t parts (admitted .has)) (asked d e .own t (admitted .has .thread) (own-not-other t))
-          (record { phase = advanced .phase ∙ ready .phase; count = advanced .count; cursor = advanced .cursor ∙ ap (λ n. n + 1) (admitted .reads .cursor); repeats = advanced .repeats ∙ admitted .reads .repeats })
+          (record { phase = advanced .phase ∙ ready .phase; count = advanced .count; cursor = advanced .cursor ∙ min-left (before .cursor + 1) (cursor-limit (before .phase) (before .count)) room ∙ ap (λ n. n + 1) (admitted .reads .cursor); repeats = advanced .repeats ∙ admitted .reads .repeats })
           (c .store-record .ensures));
       parts = parts-then b b₁ parts (c .store-record .ensures .parts);
     }
@@ -68,11 +65,13 @@ returns-then-before-eq4 g c =
     let b₂ = c .abort .last .self in
     let ready = c .pre .0 in
     let admitted = ready .admitted in
+    let inside = on-board t before b admitted (c .pre .1) entry (c .entry-at-entry .ensures) in
+    let on-line = c .line-of .ensures ∙ line-fits b (admitted .has .fits) (entry .address) inside in
     let turns = subst (λ z. Turns t (Cleared (g .R·Signature) (g .W·Signature) Aborted) z b₂) (c .in-Err .ensures tt .1) (c .abort .ensures) in
     record {
       follows = λ d e.
           is-lost entry (ready .accepted d e) (sym (admitted .reads .phase) ∙ ready .phase) (at-cursor t before b admitted (c .pre .1) entry (c .entry-at-entry .ensures) d e)
-          (ap (λ l. nacker (g .R·Signature) (g .W·Signature) (view b d e) (Some t) l) (sym (c .line-of .ensures)) ∙ c .in-Err .ensures tt .0 d e)
+          (ap (λ l. nacker (g .R·Signature) (g .W·Signature) (view b d e) (Some t) l) (sym on-line) ∙ c .in-Err .ensures tt .0 d e)
           (sym (admitted .reads .repeats) ∙ c .if-before-eq4 .taken) (turns .only d e) (turns .thread d e);
       parts = turns .parts;
     }
@@ -86,11 +85,13 @@ returns-else-before-eq4 g c =
     let b₂ = c .rewind .last .self in
     let ready = c .pre .0 in
     let admitted = ready .admitted in
+    let inside = on-board t before b admitted (c .pre .1) entry (c .entry-at-entry .ensures) in
+    let on-line = c .line-of .ensures ∙ line-fits b (admitted .has .fits) (entry .address) inside in
     let turns = subst (λ z. Turns t (λ x y. y ≡ rewound x) z b₂) (c .in-Err .ensures tt .1) (c .rewind .ensures) in
     record {
       follows = λ d e.
           is-nacked entry (ready .accepted d e) (sym (admitted .reads .phase) ∙ ready .phase) (at-cursor t before b admitted (c .pre .1) entry (c .entry-at-entry .ensures) d e)
-          (ap (λ l. nacker (g .R·Signature) (g .W·Signature) (view b d e) (Some t) l) (sym (c .line-of .ensures)) ∙ c .in-Err .ensures tt .0 d e)
+          (ap (λ l. nacker (g .R·Signature) (g .W·Signature) (view b d e) (Some t) l) (sym on-line) ∙ c .in-Err .ensures tt .0 d e)
           (λ four. c .if-before-eq4 .left (admitted .reads .repeats ∙ four)) (turns .only d e) (turns .thread d e);
       parts = turns .parts;
     }

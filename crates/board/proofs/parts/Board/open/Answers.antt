@@ -1,7 +1,7 @@
 use mathlib.Core.Path.{sym, subst, _∙_}
 use Prim.Native.Nat.{_<_}
 use Rattle.std.specs.declared.option.Option.the-variants.{None}
-use Rattle.board.specs.declared.phase.Phase.the-variants.{Idle}
+use Rattle.thread_record.specs.declared.phase.Phase.the-variants.{Idle}
 use Rattle.board.specs.Requests.{Cleared}
 use Rattle.board.specs.Views.{view}
 use Rattle.board.proofs.Outcomes.{not-opened, same-parts}

@@ -1,4 +1,4 @@
-use Rattle.board.specs.declared.phase.Phase.the-variants.{Idle}
+use Rattle.thread_record.specs.declared.phase.Phase.the-variants.{Idle}
 use Rattle.board.specs.Requests.{Cleared}
 use Rattle.board.specs.Views.{Same-parts, view}
 use Rattle.board.proofs.Progress.{Progress}

@@ -4,8 +4,8 @@ use borrow.Author.Needs.{needs}
 use denote.Ref.{now}
 use lib.ListN.{getD}
 use Rattle.signature.specs.Meaning.{Emptied}
-use Rattle.board.specs.declared.phase.Phase.the-variants.{Copying}
-use Rattle.board.specs.Limits.{cursor-limit}
+use Rattle.thread_record.specs.declared.phase.Phase.the-variants.{Copying}
+use Rattle.thread_record.specs.Limits.{cursor-limit}
 use Rattle.board.specs.Rules.{passes, with-reads}
 use Rattle.board.specs.States.{Only}
 use Rattle.board.specs.Views.{view}

@@ -3,15 +3,18 @@ use mathlib.Core.Bool.{false}
 use borrow.Author.Needs.{needs}
 use Rattle.std.specs.declared.option.Option.the-variants.{Some, None}
 use Rattle.signature.specs.Meaning.{Inserted}
+use Rattle.refusal.specs.Rows.{read-row}
+use Rattle.conflict.specs.Conflicts.{line}
+use Rattle.write_buffer.specs.Buffers.{lookup}
 use Rattle.board.specs.Changes.{Reads-turned}
-use Rattle.board.specs.Refusals.{read, read-row, refusal}
+use Rattle.board.specs.Refusals.{read, refusal}
 use Rattle.board.specs.Requests.{Requested, nacker}
 use Rattle.board.specs.Rules.{got, reads-own}
-use Rattle.board.specs.States.{Only, line, lookup}
+use Rattle.board.specs.States.{Only}
 use Rattle.board.specs.Views.{view}
 use Rattle.board.proofs.Loads.{loaded}
 use Rattle.board.proofs.Outcomes.{nacked-by, passed-on, same-parts}
-use Rattle.board.proofs.Owns.{own-lookup}
+use Rattle.board.proofs.Owns.{line-fits, own-lookup}
 use Rattle.board.proofs.Progress.{parts-then}
 use Rattle.board.proofs.parts.Board.read.Needs as need
 
@@ -49,11 +52,12 @@ returns-in-Err g c =
     let a = c .args .address in
     let b = c .args .self .now in
     let found = c .in-Continue-record .ensures tt in
+    let on-line = c .line-of-line .ensures ∙ line-fits b (found .accepts .2 .fits) a (found .accepts .2 .address) in
     nacked-by (g .R·Signature) (g .W·Signature) (read t a) (λ v. got t a v) b (c .in-Err .by) (c .request .last .self)
     (λ d e.
     let s = view b d e in
     let own = own-lookup t (c .in-Continue-record .record) b (found .accepts .0) d e a None (c .buffer .result .now) (c .buffer .ensures .holds) (c .in-rest .ensures tt) in
-    let nacking = ap (λ l. nacker (g .R·Signature) (g .W·Signature) s (Some t) l) (sym (c .line-of-line .ensures)) ∙ c .in-Err .ensures tt .0 d e in
+    let nacking = ap (λ l. nacker (g .R·Signature) (g .W·Signature) s (Some t) l) (sym on-line) ∙ c .in-Err .ensures tt .0 d e in
     sym (ap₂ read-row own nacking) ∙ found .decides d e (read-row (lookup (s .thread t .buffer) a) (nacker (g .R·Signature) (g .W·Signature) s (Some t) (line a))))
     (c .in-Err .ensures tt .1)
 
@@ -66,8 +70,9 @@ returns g c =
     let b₁ = c .request .last .self in
     let b₂ = c .insert-read .last .self in
     let found = c .in-Continue-record .ensures tt in
-    let asked = subst (λ l. (d : g .R .Denot) (e : g .W .Denot) → Requested (g .R·Signature) (g .W·Signature) false (Some t) l (view b d e) (view b₁ d e)) (c .line-of-line .ensures) (c .in-rest-request .ensures tt .0) in
-    let turned = subst (λ l. Reads-turned t (λ s s′. Inserted (g .R·Signature .has) (g .R·Signature .inserts) s l s′) b₁ b₂) (c .line-of-line .ensures) (c .insert-read .ensures) in
+    let on-line = c .line-of-line .ensures ∙ line-fits b (found .accepts .2 .fits) a (found .accepts .2 .address) in
+    let asked = subst (λ l. (d : g .R .Denot) (e : g .W .Denot) → Requested (g .R·Signature) (g .W·Signature) false (Some t) l (view b d e) (view b₁ d e)) on-line (c .in-rest-request .ensures tt .0) in
+    let turned = subst (λ l. Reads-turned t (λ s s′. Inserted (g .R·Signature .has) (g .R·Signature .inserts) s l s′) b₁ b₂) on-line (c .insert-read .ensures) in
     let only : (d : g .R .Denot) (e : g .W .Denot) → Only t (view b₁ d e .words) (view b₁ d e) (view b₂ d e) = search needs in
     record {
       follows = λ d e.

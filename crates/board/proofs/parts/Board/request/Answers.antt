@@ -1,7 +1,7 @@
 use mathlib.Core.Path.{sym, subst, _∙_}
 use Prim.Native.Nat.{_<_}
 use borrow.Author.Needs.{needs}
-use Rattle.board.specs.Accesses.{is-exclusive}
+use Rattle.conflict.specs.Conflicts.{is-exclusive}
 use Rattle.board.specs.Changes.{Answers}
 use Rattle.board.specs.Views.{view}
 use Rattle.board.proofs.Progress.{progress-none, progress-more, all-asked, same-fits, parts-then}

@@ -1,4 +1,4 @@
-use Rattle.board.specs.Accesses.{is-exclusive}
+use Rattle.conflict.specs.Conflicts.{is-exclusive}
 use Rattle.board.specs.Changes.{Answers}
 use Rattle.board.specs.Views.{Same-parts, view}
 use Rattle.board.proofs.Progress.{Progress}

@@ -3,15 +3,16 @@ use Prim.Native.Nat.{ℕ}
 use Rattle.std.specs.declared.option.Option.{Option}
 use Rattle.std.specs.declared.option.Option.the-variants.{None}
 use Rattle.signature.specs.declared.Signature.{Ghosts}
+use Rattle.refusal.specs.Rows.{phase-rows}
 use Rattle.board.specs.declared.parts.Board.{Board}
-use Rattle.board.specs.declared.phase.Phase.{Phase}
-use Rattle.board.specs.declared.phase.Phase.the-variants.{Idle, Running, Validating, Copying, Aborted}
-use Rattle.board.specs.declared.record.Record.{Record}
-use Rattle.board.specs.declared.refusal.Refusal.the-variants as refusals
+use Rattle.thread_record.specs.declared.phase.Phase.{Phase}
+use Rattle.thread_record.specs.declared.phase.Phase.the-variants.{Idle, Running, Validating, Copying, Aborted}
+use Rattle.thread_record.specs.declared.record.Record.{Record}
+use Rattle.refusal.specs.declared.refusal.Refusal.the-variants as refusals
 use Rattle.board.specs.Admissions.{Admitted}
-use Rattle.board.specs.Cases.{Case}
-use Rattle.board.specs.Phases.{is-committing}
-use Rattle.board.specs.Refusals.{phase-rows, refusal, step, thread-rows}
+use Rattle.refusal.specs.Cases.{Case}
+use Rattle.thread_record.specs.Phases.{is-committing}
+use Rattle.board.specs.Refusals.{refusal, step, thread-rows}
 use Rattle.board.specs.Rules.{step-event}
 use Rattle.board.specs.Views.{view}
 use Rattle.board.proofs.Outcomes.{passed-on, refused}
@@ -27,18 +28,17 @@ returns-in-Break-record g c =
 
 -- the table lets a committing thread step
 module _ {R W : Type 0} (r : Ghosts R) (w : Ghosts W) (t : ℕ) (found : Record) (b : Board R W) (admitted : Admitted t found b)
-  (decides : (d : R) (e : W) (after : Option Case) → after ≡ thread-rows (view b d e) t after)
+    (decides : (d : R) (e : W) (after : Option Case) → after ≡ thread-rows (view b d e) t after)
   where
-  rows : (p : Phase) → found .phase ≡ p → (d : R) (e : W) → refusal r w (view b d e) (step t) ≡ phase-rows is-committing p t None
-  unfolding refusal
-  rows p is d e =
-      sym (decides d e (phase-rows is-committing (view b d e .thread t .phase) t None)) ∙ ap (λ q. phase-rows is-committing q t None) (sym (admitted .reads .phase) ∙ is)
+    rows : (p : Phase) → found .phase ≡ p → (d : R) (e : W) → refusal r w (view b d e) (step t) ≡ phase-rows is-committing p t None
+    unfolding refusal
+    rows p is d e =
+        sym (decides d e (phase-rows is-committing (view b d e .thread t .phase) t None)) ∙ ap (λ q. phase-rows is-committing q t None) (sym (admitted .reads .phase) ∙ is)
 
 pub fetch-requires : need.fetch-requires
 fetch-requires g c κs =
     let found = c .in-Continue-record .ensures tt in
-    let is = c .in-Validating-true .is-0 in
-    (
+    let is = c .in-Validating-true .is-0 in (
       record { admitted = found .accepts; phase = is; accepted = rows (g .R·Signature) (g .W·Signature) (c .args .thread) (c .in-Continue-record .record) (c .args .self .now) (found .accepts) (found .decides) Validating is },
       c .in-Validating-true .is-1,
     )
@@ -46,8 +46,7 @@ fetch-requires g c κs =
 pub pass-requires : need.pass-requires
 pass-requires g c κs =
     let found = c .in-Continue-record .ensures tt in
-    let is = c .in-Validating-false .is-0 in
-    (
+    let is = c .in-Validating-false .is-0 in (
       record { admitted = found .accepts; phase = is; accepted = rows (g .R·Signature) (g .W·Signature) (c .args .thread) (c .in-Continue-record .record) (c .args .self .now) (found .accepts) (found .decides) Validating is },
       c .in-Validating-false .is-1,
     )
@@ -55,8 +54,7 @@ pass-requires g c κs =
 pub copy-requires : need.copy-requires
 copy-requires g c κs =
     let found = c .in-Continue-record .ensures tt in
-    let is = c .in-Copying-true .is-0 in
-    (
+    let is = c .in-Copying-true .is-0 in (
       record { admitted = found .accepts; phase = is; accepted = rows (g .R·Signature) (g .W·Signature) (c .args .thread) (c .in-Continue-record .record) (c .args .self .now) (found .accepts) (found .decides) Copying is },
       c .in-Copying-true .is-1,
     )
@@ -64,8 +62,7 @@ copy-requires g c κs =
 pub end-requires : need.end-requires
 end-requires g c κs =
     let found = c .in-Continue-record .ensures tt in
-    let is = c .in-Copying-false .is-0 in
-    (
+    let is = c .in-Copying-false .is-0 in (
       record { admitted = found .accepts; phase = is; accepted = rows (g .R·Signature) (g .W·Signature) (c .args .thread) (c .in-Continue-record .record) (c .args .self .now) (found .accepts) (found .decides) Copying is },
       c .in-Copying-false .is-1,
     )

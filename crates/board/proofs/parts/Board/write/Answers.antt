@@ -1,6 +1,6 @@
 use mathlib.Core.Path.{_≡_, sym, ap, subst, _∙_}
 use mathlib.Core.List.{[], _∷_}
-use Prim.Native.Nat.{_+_, max, _≤_, _<_}
+use Prim.Native.Nat.{_+_, max, min, _≤_, _<_}
 use native.Mathlib.Omega.{arith}
 use borrow.Author.Needs.{needs}
 use denote.Ref.{now}
@@ -8,15 +8,18 @@ use lib.Dec.{eqb}
 use lib.ListN.{length, take}
 use Rattle.std.specs.declared.option.Option.the-variants.{None}
 use Rattle.signature.specs.Meaning.{Inserted}
-use Rattle.board.specs.declared.phase.Phase.the-variants.{Running}
-use Rattle.board.specs.Buffers.{place}
+use Rattle.thread_record.specs.declared.phase.Phase.the-variants.{Running}
+use Rattle.write_buffer.specs.Buffers.{place}
+use Rattle.refusal.specs.Rows.{row}
 use Rattle.board.specs.Changes.{Entry-stored, Writes-turned}
-use Rattle.board.specs.Records.{Is}
-use Rattle.board.specs.Refusals.{full-row, refusal, row, write}
+use Rattle.thread_record.specs.Records.{Is}
+use Rattle.board.specs.Refusals.{full-row, refusal, write}
 use Rattle.board.specs.Rules.{put}
 use Rattle.board.specs.States.{Only}
 use Rattle.board.specs.Views.{part, view}
 use Rattle.board.proofs.Outcomes.{passed-on}
+use Rattle.board.proofs.Owns.{line-fits}
+use Rattle.board.proofs.ReadBack.{min-left}
 use Rattle.board.proofs.Puts.{no-room, put-rule}
 use Rattle.board.proofs.parts.Board.write.Needs as need
 
@@ -59,10 +62,12 @@ returns g c =
     let before = c .in-Continue-before .before in
     let found = c .in-Continue-before .ensures tt in
     let at = c .place-of-place .ensures .found ∙ ap (λ xs. place xs a) (c .buffer .ensures .holds) in
+    let on-line = c .line-of .ensures ∙ line-fits b (found .accepts .2 .fits) a (found .accepts .2 .address) in
     let small : c .place-of-place .result < 32 = search needs in
     let put-in = subst (λ n. Entry-stored t n (record { address = a; word = v }) b b₁) at (c .store-entry .ensures) in
-    let is = subst (λ n. Is Running n 0 0 (c .running .result)) (c .max .ensures ∙ ap (λ n. max (before .count) (n + 1)) at) (c .running .ensures) in
-    let told = subst (λ l. Writes-turned t (λ s s′. Inserted (g .W·Signature .has) (g .W·Signature .inserts) s l s′) b₂ b₃) (c .line-of .ensures) (c .insert-write .ensures) in
+    let most : max (before .count) (c .place-of-place .result + 1) ≤ 32 = search needs in
+    let is = subst (λ n. Is Running n 0 0 (c .running .result)) (ap (λ n. min n 32) (c .max .ensures) ∙ min-left _ 32 most ∙ ap (λ n. max (before .count) (n + 1)) at) (c .running .ensures) in
+    let told = subst (λ l. Writes-turned t (λ s s′. Inserted (g .W·Signature .has) (g .W·Signature .inserts) s l s′) b₂ b₃) on-line (c .insert-write .ensures) in
     let only : (d : g .R .Denot) (e : g .W .Denot) → Only t (view b d e .words) (view b d e) (view b₃ d e) = search needs in
     record {
       follows = λ d e.

@@ -1,8 +1,0 @@
-use mathlib.Core.Path.{_≡_}
-use lib.ListN.{drop}
-use Rattle.board.specs.Refusals.{all-below}
-use Rattle.board.proofs.buffer.are_below.Given as given
-
--- what is left decides
-abbrev pub Inv-loop-e : given.InvT-loop-e
-Inv-loop-e l = all-below (l .size) (l .entries) ≡ all-below (l .size) (drop (l .e-index) (l .entries))
