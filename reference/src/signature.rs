@@ -13,7 +13,7 @@ pub trait Signature {
 }
 
 /// A register of `WORDS` × 64 bits; the words are counted because an array cannot be `BITS / 64` long.
-#[derive(Clone, Debug)]
+#[derive(Clone, Debug, PartialEq, Eq)]
 pub struct Register<const WORDS: usize> {
     words: [u64; WORDS],
 }
@@ -61,7 +61,7 @@ impl<const WORDS: usize> Signature for Register<WORDS> {
 }
 
 /// Up to 16 different lines, and every line when one more comes.
-#[derive(Clone, Debug, Default)]
+#[derive(Clone, Debug, Default, PartialEq, Eq)]
 pub struct List {
     lines: Vec<u16>,
     every: bool,
@@ -95,7 +95,7 @@ impl Signature for List {
 }
 
 /// Two signatures that must agree on a hit.
-#[derive(Clone, Debug, Default)]
+#[derive(Clone, Debug, Default, PartialEq, Eq)]
 pub struct Both<A, B>(A, B);
 
 impl<A: Signature, B: Signature> Signature for Both<A, B> {
@@ -115,7 +115,7 @@ impl<A: Signature, B: Signature> Signature for Both<A, B> {
 }
 
 /// A signature that sees four neighbouring lines as one.
-#[derive(Clone, Debug, Default)]
+#[derive(Clone, Debug, Default, PartialEq, Eq)]
 pub struct Coarse<S>(S);
 
 impl<S: Signature> Signature for Coarse<S> {

@@ -5,19 +5,12 @@ use mathlib.Core.List.{List}
 use Prim.Native.Nat.{ℕ, _+_, _-_, _*_, _≤_, _<_}
 use native.Mathlib.Omega.{arith}
 use borrow.Rule.Slice.PartMut.{putMid, same-len-mid}
-use lib.ListN.{length, getD, take, drop, length-take, length-drop}
-use lib.Seq.{getD-take, getD-drop}
-use Rattle.std.proofs.shelf.Lists.{drop-take, getD-default}
+use lib.ListN.{length, take, drop, length-take, length-drop}
+use Rattle.std.proofs.shelf.Lists.{drop-take}
 use Rattle.std.proofs.shelf.Parts.{between-putMid, drop-putMid, take-putMid-below}
 use Rattle.std.proofs.shelf.Tests.{cases-lt}
 use Rattle.write_buffer.specs.declared.entry.Entry.{Entry}
 use Rattle.board.specs.Views.{part}
-
--- an entry of the area is one of its part
-pub entry-of : (xs : List Entry) (t i : ℕ) → 32 * t + 32 ≤ length xs → i < 32 → (d e : Entry) → getD xs (32 * t + i) d ≡ getD (part t xs) i e
-entry-of xs t i room h d e =
-    let inside : 32 * t + i < length xs = omega arith in
-    getD-default xs (32 * t + i) d e inside ∙ sym (getD-take 32 (drop (32 * t) xs) i e h ∙ getD-drop (32 * t) xs i e)
 
 -- the entries, with those of thread t's part put back as ys
 module _ (xs ys : List Entry) (t : ℕ) (room : 32 * t + 32 ≤ length xs) (long : length ys ≡ 32) where

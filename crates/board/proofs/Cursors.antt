@@ -7,7 +7,7 @@ use native.Mathlib.Omega.{arith}
 use denote.Ref.{now}
 use lib.Dec.{ltb}
 use lib.ListN.{length, getD, take}
-use lib.Seq.{getD-take}
+use Rattle.std.proofs.shelf.Lists.{getD-default}
 use Rattle.std.proofs.shelf.Tests.{and-parts, ltb-true}
 use Rattle.write_buffer.specs.declared.entry.Entry.{Entry}
 use Rattle.write_buffer.specs.Buffers.{all-below}
@@ -29,6 +29,10 @@ below-at size [] i d h inside = absurd (omega arith)
 below-at size (x ∷ xs) zero d h inside = ltb-true (x .address) size (and-parts (ltb (x .address) size) (all-below size xs) h .0)
 below-at size (x ∷ xs) (suc i) d h inside = below-at size xs i d (and-parts (ltb (x .address) size) (all-below size xs) h .1) (omega arith)
 
+-- an element, by the list that it was read from
+pub read-at : (xs ys : List Entry) (i : ℕ) (d : Entry) → xs ≡ ys → i < length xs → getD xs i d ≡ getD ys i (getD xs i d)
+read-at xs ys i d same inside = getD-default xs i d (getD xs i d) inside ∙ ap (λ zs. getD zs i (getD xs i d)) same
+
 -- a word was stored, and then a thread changed
 pub stored-then : {R W : Type 0} (t a v : ℕ) (s s₁ s₂ : State R W) → Stores a v s s₁ → Only t (s₁ .words) s₁ s₂ → Only t (at (s .words) a v) s s₂
 stored-then t a v s s₁ s₂ first then = record {
@@ -38,10 +42,7 @@ stored-then t a v s s₁ s₂ first then = record {
 }
 
 module _ {R W : Type 0} (t : ℕ) (before : Record) (b : Board R W) (admitted : Admitted t before b) where
-  module _ (below : before .cursor < before .count) (entry : Entry) (is : entry ≡ getD (part t (now (b .entries))) (before .cursor) entry) where
-    counted : entry ≡ getD (take (before .count) (part t (now (b .entries)))) (before .cursor) entry
-    counted = is ∙ sym (getD-take (before .count) (part t (now (b .entries))) (before .cursor) entry below)
-
+  module _ (below : before .cursor < before .count) (entry : Entry) (counted : entry ≡ getD (take (before .count) (part t (now (b .entries)))) (before .cursor) entry) where
     -- its address is on the board
     pub on-board : entry .address < length (now (b .words))
     on-board =

@@ -1,21 +1,24 @@
 -- What the table of effects says, read backwards.
 use mathlib.Core.Path.{_≡_, refl, sym, subst}
 use mathlib.Core.Bool.{Bool, true, false, cond, _&&_}
+use mathlib.Core.Logic.{inl, inr}
 use mathlib.Core.List.{List, [], _∷_}
 use Prim.Native.Nat.{ℕ, zero, suc, _<_}
 use native.Mathlib.Omega.{arith}
 use lib.Dec.{eqb}
 use denote.Ref.{now}
 use lib.ListN.{length}
-use Rattle.std.proofs.shelf.Tests.{eq-eqb}
+use Rattle.std.proofs.shelf.Tests.{cases-bool, eq-eqb, eqb-true}
+use Rattle.std.specs.declared.option.Option.{Option}
 use Rattle.signature.specs.declared.Signature.{Ghosts}
 use Rattle.conflict.specs.declared.effect.Effect.{Effect}
 use Rattle.conflict.specs.declared.effect.Effect.the-variants.{Stays, Repeats, Aborts}
-use Rattle.conflict.specs.Conflicts.{again, effect}
+use Rattle.conflict.specs.Conflicts.{again, effect, other}
 use Rattle.board.specs.declared.parts.Board.{Board}
 use Rattle.thread_record.specs.declared.phase.Phase.{Phase}
 use Rattle.thread_record.specs.declared.phase.Phase.the-variants.{Idle, Running, Validating, Copying, Aborted}
 use Rattle.board.specs.Admissions.{Has, Repeatable}
+use Rattle.board.specs.Changes.{met}
 use Rattle.board.specs.Requests.{effect-on}
 use Rattle.board.specs.Views.{right-lengths, view}
 
@@ -30,6 +33,19 @@ module _ (n : ℕ) where
 
   never-aborts : Repeats ≡ Aborts → ⊥
   never-aborts is = let z : _≡_ {A = ℕ} 0 1 = cc in omega arith
+
+  pub meets : (another : Bool) (what : Effect) → Repeats ≡ cond another what Stays → Repeats ≡ what
+  meets true what is = is
+  meets false what is = absurd (never-stays is)
+
+  pub aborts-after-four : n ≡ 4 → again n ≡ Aborts
+  aborts-after-four four = rw (eq-eqb n 4 four)
+
+  pub four-when : Aborts ≡ again n → n ≡ 4
+  four-when is = elim (cases-bool (eqb n 4)) [
+    | inl h ↦ eqb-true n 4 h
+    | inr h ↦ absurd (never-aborts (sym (rw h at is)))
+  ]
 
   running : (hit : Bool) → Repeats ≡ cond hit Aborts Stays → ⊥
   running true is = never-aborts is
@@ -51,12 +67,19 @@ module _ (n : ℕ) where
 rows-long : (words records entries reads writes : ℕ) → right-lengths words records entries reads writes ≡ true → (reads ≡ records) × (writes ≡ records)
 rows-long words records entries reads writes fits = grind (arith, fits)
 
-pub repeatable : {R W : Type 0} (r : Ghosts R) (w : Ghosts W) (exclusive : Bool) (l u : ℕ) (b : Board R W) → Has u b →
-    ((d : R) (e : W) → Repeats ≡ effect-on r w exclusive l (view b d e .thread u)) → Repeatable u b
-repeatable r w exclusive l u b has is =
+-- a thread of the board has a signature in each row
+pub in-rows : {R W : Type 0} (u : ℕ) (b : Board R W) → Has u b → (u < length (now (b .reads))) × (u < length (now (b .writes)))
+in-rows u b has =
     let long = rows-long (length (now (b .words))) (length (now (b .records))) (length (now (b .entries))) (length (now (b .reads))) (length (now (b .writes))) (has .fits) in
-    let d = some (now (b .reads)) u (subst (λ n. u < n) (sym (long .0)) (has .thread)) in
-    let e = some (now (b .writes)) u (subst (λ n. u < n) (sym (long .1)) (has .thread)) in
+    (subst (λ n. u < n) (sym (long .0)) (has .thread), subst (λ n. u < n) (sym (long .1)) (has .thread))
+
+pub repeatable : {R W : Type 0} (r : Ghosts R) (w : Ghosts W) (exclusive : Bool) (who : Option ℕ) (l u : ℕ) (b : Board R W) → Has u b →
+    ((d : R) (e : W) → Repeats ≡ met r w exclusive who l u (view b d e .thread u)) → Repeatable u b
+repeatable r w exclusive who l u b has is =
+    let inside = in-rows u b has in
+    let d = some (now (b .reads)) u (inside .0) in
+    let e = some (now (b .writes)) u (inside .1) in
     let x = view b d e .thread u in
-    let when = repeats-when (x .repeats) exclusive (x .phase) (r .has (x .reads) l) (w .has (x .writes) l) (is d e) in
-    record { phase = when .0; repeats = when .1 }
+    let when = meets (x .repeats) (other who u) (effect-on r w exclusive l x) (is d e) in
+    let so = repeats-when (x .repeats) exclusive (x .phase) (r .has (x .reads) l) (w .has (x .writes) l) when in
+    record { phase = so .0; repeats = so .1 }

@@ -1,16 +1,17 @@
 -- What the small changes to a board's parts are, part by part. Assumes nothing.
 use mathlib.Core.Path.{_≡_}
-use mathlib.Core.Bool.{Bool}
+use mathlib.Core.Bool.{Bool, cond}
 use Prim.Native.Nat.{ℕ}
 use denote.Ref.{now}
 use lib.ListN.{length, getD, set}
-use Rattle.std.specs.Orderings.{When}
 use Rattle.std.specs.declared.option.Option.{Option}
 use Rattle.std.specs.declared.option.Option.the-variants.{Some}
 use Rattle.std.specs.declared.result.Result.{Result}
 use Rattle.std.specs.declared.result.Result.the-variants.{Ok, Err}
 use Rattle.signature.specs.declared.Signature.{Ghosts}
 use Rattle.write_buffer.specs.declared.entry.Entry.{Entry}
+use Rattle.conflict.specs.declared.effect.Effect.{Effect}
+use Rattle.conflict.specs.declared.effect.Effect.the-variants.{Stays}
 use Rattle.conflict.specs.Conflicts.{other}
 use Rattle.board.specs.declared.parts.Board.{Board}
 use Rattle.thread_record.specs.declared.plain.PlainRecord.{PlainRecord}
@@ -74,9 +75,13 @@ module _ {R W : Type 0} where
     pub parts : Same-parts b b′
 
 module _ {R W : Type 0} (r : Ghosts R) (w : Ghosts W) where
-  -- what a request that nobody nacked leaves of thread u, which may be the requester
+  -- what a request that nobody nacked does to thread u, which may be the requester
+  abbrev pub met : Bool → Option ℕ → ℕ → ℕ → Thread R W → Effect
+  met exclusive who l u x = cond (other who u) (effect-on r w exclusive l x) Stays
+
+  -- what it leaves of thread u
   abbrev pub Answers : Bool → Option ℕ → ℕ → ℕ → Thread R W → Thread R W → Type 0
-  Answers exclusive who l u x y = When (other who u) (Leaves r w (effect-on r w exclusive l x) x y) (y ≡ x)
+  Answers exclusive who l u x y = Leaves r w (met exclusive who l u x) x y
 
   -- a request was made: nobody nacked it, or the given thread did and nothing changed
   abbrev pub Asked : {X : Type 0} → Bool → Option ℕ → ℕ → Board R W → Result X ℕ → Board R W → Type 0

@@ -1,22 +1,18 @@
 // The small changes that the calls are made of.
 ghost use mathlib.Core.Path.{_≡_};
 ghost use Prim.Native.Nat.{_+_, _*_, _≤_, _<_};
-ghost use lib.ListN.{length, getD, set};
+ghost use lib.ListN.{length, getD};
 ghost use Rattle.signature.specs.Meaning.{Emptied, Inserted};
 ghost use Rattle.board.specs.Changes.{Record-stored, Reads-turned, Writes-turned, Word-stored, Entry-stored};
 ghost use Rattle.thread_record.specs.Records.{plain-of};
 use crate::parts::Board;
+use memory::load;
+use memory::store;
 use signature::Signature;
 use thread_record::Record;
 use thread_record::reading::plain_of;
 use write_buffer::Entry;
-
-fn put(area: &mut [Entry], at: usize, entry: Entry)
-    requires { ⌜ at < length (now area) ⌝ }
-    ensures { λ _. ⌜ now (area .exit) ≡ set (now (area .entry)) at entry ⌝ }
-{
-    area[at] = entry;
-}
+use write_buffer::area::put;
 
 impl<'w, 'r, 'e, 's, 'x, R: Signature, W: Signature> Board<'w, 'r, 'e, 's, 'x, R, W> {
     pub(crate) fn store_record(&mut self, t: usize, record: Record)
@@ -54,24 +50,23 @@ impl<'w, 'r, 'e, 's, 'x, R: Signature, W: Signature> Board<'w, 'r, 'e, 's, 'x, R
         self.writes[t].insert(line);
     }
 
-    pub(crate) fn store_word(&mut self, a: usize, v: u32)
-        requires { ⌜ a < length (now (now self .words)) ⌝ }
-        ensures { λ _. ⌜ Word-stored a v (now (self .entry)) (now (self .exit)) ⌝ }
+    pub(crate) fn store_word(&mut self, address: u32, word: u32)
+        ensures { λ _. ⌜ Word-stored address word (now (self .entry)) (now (self .exit)) ⌝ }
     {
-        self.words[a] = v;
+        store(self.words, address, word);
     }
 
     pub(crate) fn store_entry(&mut self, t: usize, place: usize, entry: Entry)
-        requires { ⌜ 32 * t + 32 ≤ length (now (now self .entries)) ⌝ ∗ ⌜ place < 32 ⌝ }
+        requires { ⌜ 32 * t + 32 ≤ length (now (now self .entries)) ⌝ }
         ensures { λ _. ⌜ Entry-stored t place entry (now (self .entry)) (now (self .exit)) ⌝ }
     {
         put(&mut self.entries[32 * t..32 * t + 32], place, entry);
     }
 
-    pub(crate) fn word_at(&self, a: usize) -> u32
-        requires { ⌜ a < length (now (now self .words)) ⌝ }
-        ensures { λ r. ⌜ r ≡ getD (now (now (self .entry) .words)) a 0 ⌝ }
+    pub(crate) fn word_at(&self, address: u32) -> u32
+        ensures { λ r. ⌜ r ≡ getD (now (now (self .entry) .words)) address 0 ⌝ }
     {
-        self.words[a]
+        let words = &*self.words;
+        load(words, address)
     }
 }

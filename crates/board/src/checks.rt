@@ -1,8 +1,8 @@
 // The rows of the refusal table, from the top down.
 ghost use mathlib.Core.Path.{_≡_};
 ghost use mathlib.Core.Bool.{true};
-ghost use Prim.Native.Nat.{ℕ, _+_, _*_, _≤_, _<_};
-ghost use lib.ListN.{length, getD, take};
+ghost use Prim.Native.Nat.{_+_, _*_, _≤_, _<_};
+ghost use lib.ListN.{length, take};
 ghost use Rattle.std.specs.Vec.{made};
 ghost use Rattle.std.specs.declared.option.Option.{Option};
 ghost use Rattle.thread_record.specs.declared.phase.Phase.the-variants.{Running};
@@ -104,13 +104,5 @@ impl<'w, 'r, 'e, 's, 'x, R: Signature, W: Signature> Board<'w, 'r, 'e, 's, 'x, R
         self.check_address(address)?;
         check_running(record.phase, thread)?;
         Ok(record)
-    }
-
-    // The entry at the cursor of a thread.
-    pub(crate) fn entry_at(&self, t: usize, cursor: u32) -> Entry
-        requires { ⌜ 32 * t + 32 ≤ length (now (now self .entries)) ⌝ ∗ ⌜ cursor < 32 ⌝ }
-        ensures { λ r. ⌜ r ≡ getD (part t (now (now (self .entry) .entries))) cursor r ⌝ }
-    {
-        self.entries[32 * t + cursor as usize]
     }
 }

@@ -16,7 +16,7 @@ impl<'w, 'r, 'e, 's, 'x, R: Signature, W: Signature> Board<'w, 'r, 'e, 's, 'x, R
         if let Err(by) = self.request(Access::Shared, None, line_of(address)) {
             return Err(Refusal::Nacked(by));
         }
-        Ok(self.word_at(address as usize))
+        Ok(self.word_at(address))
     }
 
     pub fn plain_write(&mut self, address: u32, word: u32) -> Result<(), Refusal>
@@ -26,7 +26,7 @@ impl<'w, 'r, 'e, 's, 'x, R: Signature, W: Signature> Board<'w, 'r, 'e, 's, 'x, R
         if let Err(by) = self.request(Access::Exclusive, None, line_of(address)) {
             return Err(Refusal::Nacked(by));
         }
-        self.store_word(address as usize, word);
+        self.store_word(address, word);
         Ok(())
     }
 }

@@ -5,30 +5,25 @@ ghost use Prim.Native.Nat.{ℕ, _<_};
 ghost use lib.ListN.{length, getD};
 ghost use Rattle.conflict.specs.Conflicts.{is-exclusive};
 ghost use Rattle.board.specs.Admissions.{Has};
-ghost use Rattle.board.specs.Changes.{Answers, Asked, Turns};
-ghost use Rattle.board.specs.Requests.{Leaves, effect-on, nacks, nacker};
+ghost use Rattle.board.specs.Changes.{Answers, Asked, Turns, met};
+ghost use Rattle.board.specs.Requests.{nacks, nacker};
 ghost use Rattle.board.specs.Views.{fits-of, view};
 use crate::parts::Board;
 use conflict::Access;
 use conflict::Effect;
 use conflict::meeting::does_nack;
 use conflict::meeting::effect_on;
-use conflict::meeting::is_other;
 use signature::Signature;
 use thread_record::reading::record_of;
 
 impl<'w, 'r, 'e, 's, 'x, R: Signature, W: Signature> Board<'w, 'r, 'e, 's, 'x, R, W> {
-    fn nacks_other(&self, requester: Option<u32>, line: u16, u: u32) -> bool
+    fn nacks_at(&self, requester: Option<u32>, line: u16, u: u32) -> bool
         requires { ⌜ Has u (now self) ⌝ }
         ensures { λ r. ⌜ ((d : R) (e : W) → r ≡ nacks R·Signature W·Signature (view (now (self .entry)) d e) requester line u) ⌝ }
     {
+        let t = u as usize;
         let writes = &*self.writes;
-        is_other(requester, u)
-            && does_nack(
-                record_of(self.records[u as usize]),
-                &writes[u as usize],
-                line,
-            )
+        does_nack(requester, u, record_of(self.records[t]), &writes[t], line)
     }
 
     // The lowest thread that nacks a request.
@@ -37,45 +32,40 @@ impl<'w, 'r, 'e, 's, 'x, R: Signature, W: Signature> Board<'w, 'r, 'e, 's, 'x, R
         ensures { λ r. ⌜ ((d : R) (e : W) → r ≡ nacker R·Signature W·Signature (view (now (self .entry)) d e) requester line) ⌝ }
     {
         for u in 0..self.records.len() as u32 {
-            if self.nacks_other(requester, line, u) {
+            if self.nacks_at(requester, line, u) {
                 return Some(u);
             }
         }
         None
     }
 
-    fn find_effect(&self, access: Access, line: u16, u: usize) -> Effect
+    fn effect_at(&self, access: Access, requester: Option<u32>, line: u16, u: u32) -> Effect
         requires { ⌜ Has u (now self) ⌝ }
-        ensures { λ r. ⌜ ((d : R) (e : W) → r ≡ effect-on R·Signature W·Signature (is-exclusive access) line (view (now (self .entry)) d e .thread u)) ⌝ }
+        ensures { λ r. ⌜ ((d : R) (e : W) → r ≡ met R·Signature W·Signature (is-exclusive access) requester line u (view (now (self .entry)) d e .thread u)) ⌝ }
     {
+        let t = u as usize;
         let reads = &*self.reads;
         let writes = &*self.writes;
         effect_on(
-            record_of(self.records[u]),
-            &reads[u],
-            &writes[u],
+            requester,
+            u,
+            record_of(self.records[t]),
+            &reads[t],
+            &writes[t],
             access,
             line,
         )
     }
 
-    fn affect(&mut self, access: Access, line: u16, u: usize)
-        requires { ⌜ Has u (now self) ⌝ }
-        ensures { λ _. ⌜ Turns u (λ x y. Leaves R·Signature W·Signature (effect-on R·Signature W·Signature (is-exclusive access) line x) x y) (now (self .entry)) (now (self .exit)) ⌝ }
-    {
-        match self.find_effect(access, line, u) {
-            Effect::Stays => {}
-            Effect::Repeats => self.rewind(u),
-            Effect::Aborts => self.abort(u),
-        }
-    }
-
-    fn affect_other(&mut self, access: Access, requester: Option<u32>, line: u16, u: u32)
+    // What a request that nobody nacked does to thread u.
+    fn affect(&mut self, access: Access, requester: Option<u32>, line: u16, u: u32)
         requires { ⌜ Has u (now self) ⌝ }
         ensures { λ _. ⌜ Turns u (Answers R·Signature W·Signature (is-exclusive access) requester line u) (now (self .entry)) (now (self .exit)) ⌝ }
     {
-        if is_other(requester, u) {
-            self.affect(access, line, u as usize);
+        match self.effect_at(access, requester, line, u) {
+            Effect::Stays => {}
+            Effect::Repeats => self.rewind(u as usize),
+            Effect::Aborts => self.abort(u as usize),
         }
     }
 
@@ -93,7 +83,7 @@ impl<'w, 'r, 'e, 's, 'x, R: Signature, W: Signature> Board<'w, 'r, 'e, 's, 'x, R
             return Err(j);
         }
         for u in 0..self.records.len() as u32 {
-            self.affect_other(access, requester, line, u);
+            self.affect(access, requester, line, u);
         }
         Ok(())
     }

@@ -7,7 +7,9 @@ ghost use Rattle.board.specs.Rules.{step-event};
 ghost use Rattle.board.specs.Views.{Called, Done};
 use crate::parts::Board;
 use conflict::Access;
+use conflict::Effect;
 use conflict::line::line_of;
+use conflict::meeting::one_more;
 use refusal::Refusal;
 use refusal::Stepped;
 use signature::Signature;
@@ -36,21 +38,22 @@ impl<'w, 'r, 'e, 's, 'x, R: Signature, W: Signature> Board<'w, 'r, 'e, 's, 'x, R
         ensures { λ r. ⌜ Done R·Signature W·Signature (step-event thread r) (now (self .entry)) (now (self .exit)) ⌝ }
     {
         let t = thread as usize;
-        let entry = self.entry_at(t, before.cursor);
+        let entry = self.buffer(t, before.count)[before.cursor as usize];
         match self.request(Access::Exclusive, Some(thread), line_of(entry.address)) {
             Ok(()) => {
                 self.store_record(t, before.advanced());
                 Stepped::Fetched
             }
-            Err(by) => {
-                if before.repeats == 4 {
+            Err(by) => match one_more(before.repeats) {
+                Effect::Aborts => {
                     self.abort(t);
                     Stepped::Lost
-                } else {
+                }
+                _ => {
                     self.rewind(t);
                     Stepped::Repeated(by)
                 }
-            }
+            },
         }
     }
 
@@ -71,8 +74,8 @@ impl<'w, 'r, 'e, 's, 'x, R: Signature, W: Signature> Board<'w, 'r, 'e, 's, 'x, R
         ensures { λ r. ⌜ Done R·Signature W·Signature (step-event thread r) (now (self .entry)) (now (self .exit)) ⌝ }
     {
         let t = thread as usize;
-        let entry = self.entry_at(t, before.cursor);
-        self.store_word(entry.address as usize, entry.word);
+        let entry = self.buffer(t, before.count)[before.cursor as usize];
+        self.store_word(entry.address, entry.word);
         self.store_record(t, before.advanced());
         Stepped::Copied
     }

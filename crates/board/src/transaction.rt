@@ -39,7 +39,7 @@ impl<'w, 'r, 'e, 's, 'x, R: Signature, W: Signature> Board<'w, 'r, 'e, 's, 'x, R
             return Err(Refusal::Nacked(by));
         }
         self.insert_read(t, line);
-        Ok(self.word_at(address as usize))
+        Ok(self.word_at(address))
     }
 
     pub fn write(&mut self, thread: u32, address: u32, word: u32) -> Result<(), Refusal>

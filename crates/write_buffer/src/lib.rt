@@ -1,4 +1,5 @@
 // The counted entries of a thread: its buffered words.
+pub mod area;
 mod entry;
 pub mod scan;
 

@@ -4,11 +4,11 @@ use Rattle.board.proofs.Firsts.{first-more, first-all}
 use Rattle.board.proofs.parts.Board.find_nacker.Needs as need
 
 pub loop-u-again : need.loop-u-again
-loop-u-again g c d e = c .loop-u .inv d e ∙ first-more _ _ _ (c .loop-u-test .taken) ∙ rw (← c .if-nacks-other .ensures tt d e)
+loop-u-again g c d e = c .loop-u .inv d e ∙ first-more _ _ _ (c .loop-u-test .taken) ∙ rw (← c .if-nacks-at .ensures tt d e)
 
-pub returns-then-nacks-other : need.returns-then-nacks-other
+pub returns-then-nacks-at : need.returns-then-nacks-at
 unfolding nacker
-returns-then-nacks-other g c d e = sym (c .loop-u .inv d e ∙ first-more _ _ _ (c .loop-u-test .taken) ∙ rw (← c .if-nacks-other .ensures tt d e))
+returns-then-nacks-at g c d e = sym (c .loop-u .inv d e ∙ first-more _ _ _ (c .loop-u-test .taken) ∙ rw (← c .if-nacks-at .ensures tt d e))
 
 pub returns : need.returns
 unfolding nacker

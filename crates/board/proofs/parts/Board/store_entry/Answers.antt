@@ -18,8 +18,8 @@ returns g c =
     record {
       words = refl;
       records = refl;
-      stored = part-own xs ys t (c .pre .0) long ∙ put;
-      others = part-other xs ys t (c .pre .0) long;
+      stored = part-own xs ys t (c .pre) long ∙ put;
+      others = part-other xs ys t (c .pre) long;
       reads = refl;
       writes = refl;
       parts = record {
@@ -30,7 +30,7 @@ returns g c =
         writes = refl;
         words-long = refl;
         records-long = refl;
-        entries-long = area-length xs ys t (c .pre .0) long;
+        entries-long = area-length xs ys t (c .pre) long;
         reads-long = refl;
         writes-long = refl;
       };
