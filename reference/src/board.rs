@@ -154,11 +154,10 @@ impl<R: Signature, W: Signature> Board<'_, R, W> {
         let place = match self.held(t, count, address) {
             Some(held) => held,
             None if count == ROOM => return Err(Refusal::Full(thread)),
-            None => {
-                self.store(t, Record::Running { count: count + 1 });
-                count
-            }
+            None => count,
         };
+        let count = count.max(place + 1);
+        self.store(t, Record::Running { count });
         self.entries[t * ROOM + place] = Entry { address, word };
         self.writes[t].insert(line(address));
         Ok(())
@@ -860,10 +859,11 @@ mod tests {
         // Forty counted are 32.
         parts.records[0] = plain(1, 40, 7, 9);
         refused(&mut parts, Call::Write(0, 1, 5), Refusal::Full(0));
-        // A call that stores no record leaves it as it is.
-        parts.lend().write(0, 0, 5).unwrap();
+        // A read stores no record, and a write does, to a held address too.
         parts.lend().read(0, 1).unwrap();
         assert_eq!(parts.records[0], plain(1, 40, 7, 9));
+        parts.lend().write(0, 0, 5).unwrap();
+        assert_eq!(parts.records[0], plain(1, 32, 0, 0));
         parts.lend().commit(0).unwrap();
         assert_eq!(parts.records[0], plain(2, 32, 0, 0));
         // A cursor beyond the count is at the count.

@@ -1,0 +1,5 @@
+// Examples of what the board answers, run as tests.
+#[cfg(test)]
+mod opening;
+#[cfg(test)]
+mod transactions;
