@@ -23,7 +23,7 @@ use Rattle.board.specs.Changes.{Entry-stored, Record-stored, Writes-turned}
 use Rattle.thread_record.specs.Records.{Is, plain-of}
 use Rattle.board.specs.Refusals.{refusal, write}
 use Rattle.board.specs.Rules.{Rule, put, writes-word}
-use Rattle.board.specs.States.{Only, Thread, stored}
+use Rattle.board.specs.States.{Only, stored}
 use Rattle.board.specs.Views.{part, view}
 use Rattle.board.proofs.Owns.{own-buffer, own-count}
 use Rattle.write_buffer.proofs.Places.{placed-front, placed-long, place-full}

@@ -1,13 +1,11 @@
 -- What the small changes make of a thread.
-use mathlib.Core.Path.{_≡_, ap, sym, _∙_}
+use mathlib.Core.Path.{_≡_, ap, _∙_}
 use mathlib.Core.Bool.{true}
-use mathlib.Core.List.{List}
 use Prim.Native.Nat.{ℕ, _*_, _<_}
 use native.Mathlib.Omega.{arith}
 use denote.Ref.{now}
 use lib.ListN.{length, getD, take, length-take, length-drop}
 use lib.Seq.{getD-set-same}
-use Rattle.write_buffer.specs.declared.entry.Entry.{Entry}
 use Rattle.board.specs.declared.parts.Board.{Board}
 use Rattle.thread_record.specs.declared.phase.Phase.{Phase}
 use Rattle.thread_record.specs.declared.record.Record.{Record}

@@ -1,8 +1,7 @@
 // What a request for a line does to the other threads.
 ghost use mathlib.Core.Path.{_≡_};
 ghost use mathlib.Core.Bool.{true};
-ghost use Prim.Native.Nat.{ℕ, _<_};
-ghost use lib.ListN.{length, getD};
+ghost use Prim.Native.Nat.{_<_};
 ghost use Rattle.conflict.specs.Conflicts.{is-exclusive};
 ghost use Rattle.board.specs.Admissions.{Has};
 ghost use Rattle.board.specs.Changes.{Answers, Asked, Turns, met};

@@ -1,11 +1,16 @@
 use board::Board;
 use refusal::Refusal;
+use refusal::RefusalDebug;
+use refusal::RefusalPartialEq;
 use refusal::Stepped;
+use refusal::SteppedDebug;
+use refusal::SteppedPartialEq;
 use register::Register128;
 use register::Register1024;
 use register::RegisterSignature;
 use signature::Signature;
 use std::test::*;
+use thread_record::Phase;
 use thread_record::PlainRecord;
 use write_buffer::Entry;
 
@@ -20,33 +25,6 @@ const NO_ENTRY: Entry = Entry {
     address: 0,
     word: 0,
 };
-
-// What a call answered, as a number: refusal k is 100 + k, and a step's cases count from 1.
-fn done(result: Result<(), Refusal>) -> u32 {
-    match result {
-        Ok(()) => 0,
-        Err(refusal) => 100 + refusal.number(),
-    }
-}
-
-fn word(result: Result<u32, Refusal>) -> u32 {
-    match result {
-        Ok(word) => word,
-        Err(refusal) => 100 + refusal.number(),
-    }
-}
-
-fn stepped(result: Result<Stepped, Refusal>) -> u32 {
-    match result {
-        Ok(Stepped::Fetched) => 1,
-        Ok(Stepped::Repeated(_)) => 2,
-        Ok(Stepped::Lost) => 3,
-        Ok(Stepped::Passed) => 4,
-        Ok(Stepped::Copied) => 5,
-        Ok(Stepped::Ended) => 6,
-        Err(refusal) => 100 + refusal.number(),
-    }
-}
 
 macro_rules! with_board {
     ($board:ident, $records:expr) => {
@@ -65,68 +43,67 @@ macro_rules! with_board {
     };
 }
 
-fn write_run<R: Signature, W: Signature>(
+fn write_all<R: Signature, W: Signature>(
     board: &mut Board<'_, '_, '_, '_, '_, R, W>,
     thread: u32,
     count: u32,
-) -> u32 {
-    let mut answers = 0u32;
-    for a in 0..count {
-        answers = answers.saturating_add(done(board.write(thread, a, a)));
+) -> Result<(), Refusal> {
+    for address in 0..count {
+        board.write(thread, address, address)?;
     }
-    answers
+    Ok(())
 }
 
 #[test]
 fn a_33rd_address_is_refused_and_a_held_one_is_not() -> Result<(), Fail> {
     with_board!(board, [IDLE; 2]);
-    check_eq(done(board.begin(0)), 0)?;
-    check_eq(write_run(&mut board, 0, 32), 0)?;
-    check_eq(done(board.write(0, 32, 1)), 107)?;
-    check_eq(done(board.write(0, 31, 1)), 0)?;
-    check_eq(word(board.read(0, 31)), 1)
+    board.begin(0)?;
+    write_all(&mut board, 0, 32)?;
+    check_eq(board.write(0, 32, 1), Err(Refusal::BufferFull(0)))?;
+    check_eq(board.write(0, 31, 1), Ok(()))?;
+    check_eq(board.read(0, 31), Ok(1))
 }
 
 #[test]
 fn without_writes_a_commit_passes_and_ends() -> Result<(), Fail> {
     with_board!(board, [IDLE; 2]);
-    check_eq(done(board.begin(1)), 0)?;
-    check_eq(done(board.commit(1)), 0)?;
-    check_eq(stepped(board.step(1)), 4)?;
-    check_eq(stepped(board.step(1)), 6)?;
-    check_eq(stepped(board.step(1)), 105)
+    board.begin(1)?;
+    board.commit(1)?;
+    check_eq(board.step(1), Ok(Stepped::Passed))?;
+    check_eq(board.step(1), Ok(Stepped::Ended))?;
+    check_eq(board.step(1), Err(Refusal::WrongPhase(Phase::Idle)))
 }
 
-// Thread 0 copies on the line that thread 1 asks for, again and again.
+// Thread 0 copies on the line that thread 1 asks for; its own fetch was the first to send thread 1 back.
 #[test]
 fn four_repeats_and_a_nacked_fetch_are_lost() -> Result<(), Fail> {
     with_board!(board, [IDLE; 2]);
-    check_eq(done(board.begin(1)), 0)?;
-    check_eq(done(board.write(1, 9, 1)), 0)?;
-    check_eq(done(board.commit(1)), 0)?;
-    check_eq(done(board.begin(0)), 0)?;
-    check_eq(done(board.write(0, 8, 1)), 0)?;
-    check_eq(done(board.commit(0)), 0)?;
-    check_eq(stepped(board.step(0)), 1)?;
-    check_eq(stepped(board.step(0)), 4)?;
+    board.begin(1)?;
+    board.write(1, 9, 1)?;
+    board.commit(1)?;
+    board.begin(0)?;
+    board.write(0, 8, 1)?;
+    board.commit(0)?;
+    check_eq(board.step(0), Ok(Stepped::Fetched))?;
+    check_eq(board.step(0), Ok(Stepped::Passed))?;
     for _ in 0..3 {
-        check_eq(stepped(board.step(1)), 2)?;
+        check_eq(board.step(1), Ok(Stepped::Repeated(0)))?;
     }
-    check_eq(stepped(board.step(1)), 3)?;
-    check_eq(stepped(board.step(1)), 106)?;
-    check_eq(done(board.abandon(1)), 0)
+    check_eq(board.step(1), Ok(Stepped::Lost))?;
+    check_eq(board.step(1), Err(Refusal::Aborted(1)))?;
+    check_eq(board.abandon(1), Ok(()))
 }
 
 #[test]
 fn the_upper_row_of_the_table_wins() -> Result<(), Fail> {
     with_board!(board, [IDLE; 2]);
-    check_eq(word(board.read(0, 320)), 104)?;
-    check_eq(word(board.read(2, 320)), 102)?;
-    check_eq(word(board.read(0, 319)), 105)?;
-    check_eq(word(board.plain_read(320)), 104)
+    check_eq(board.read(2, 320), Err(Refusal::NoThread(2)))?;
+    check_eq(board.read(0, 320), Err(Refusal::NoAddress(320)))?;
+    check_eq(board.read(0, 319), Err(Refusal::WrongPhase(Phase::Idle)))?;
+    check_eq(board.plain_read(320), Err(Refusal::NoAddress(320)))
 }
 
-// A running record beyond its limits is read as one with 32 entries, of which the first are not on the board.
+// A running record beyond its limits is read as one with 32 entries, all of them for address 0.
 #[test]
 fn garbage_in_a_record_is_read_by_its_limits() -> Result<(), Fail> {
     let running = PlainRecord {
@@ -136,9 +113,9 @@ fn garbage_in_a_record_is_read_by_its_limits() -> Result<(), Fail> {
         repeats: 9,
     };
     with_board!(board, [running; 2]);
-    check_eq(done(board.write(0, 1, 5)), 107)?;
-    check_eq(done(board.write(0, 0, 5)), 0)?;
-    check_eq(word(board.read(0, 0)), 5)?;
-    check_eq(done(board.commit(1)), 0)?;
-    check_eq(stepped(board.step(1)), 1)
+    check_eq(board.write(0, 1, 5), Err(Refusal::BufferFull(0)))?;
+    check_eq(board.write(0, 0, 5), Ok(()))?;
+    check_eq(board.read(0, 0), Ok(5))?;
+    check_eq(board.commit(1), Ok(()))?;
+    check_eq(board.step(1), Ok(Stepped::Fetched))
 }

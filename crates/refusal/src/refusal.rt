@@ -2,8 +2,10 @@
 ghost use mathlib.Core.Path.{_≡_};
 ghost use Rattle.refusal.specs.Cases.{refusal-case};
 use thread_record::Phase;
+use thread_record::PhaseDebug;
+use thread_record::PhasePartialEq;
 
-#[derive(Clone, Copy)]
+#[derive(Clone, Copy, PartialEq, Eq, Debug)]
 pub enum Refusal {
     WrongParts,
     NoThread(u32),

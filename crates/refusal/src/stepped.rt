@@ -1,6 +1,6 @@
 // What an accepted step did.
 
-#[derive(Clone, Copy)]
+#[derive(Clone, Copy, PartialEq, Eq, Debug)]
 pub enum Stepped {
     Fetched,
     Repeated(u32),

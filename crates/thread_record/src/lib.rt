@@ -6,5 +6,9 @@ mod record;
 mod transitions;
 
 pub use crate::phase::Phase;
+pub use crate::phase::PhaseDebug;
+pub use crate::phase::PhasePartialEq;
 pub use crate::plain::PlainRecord;
+pub use crate::plain::PlainRecordDebug;
+pub use crate::plain::PlainRecordPartialEq;
 pub use crate::record::Record;

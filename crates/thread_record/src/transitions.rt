@@ -1,47 +1,50 @@
 // How a record changes; no change leads beyond its limits.
-ghost use mathlib.Core.Path.{_≡_};
-ghost use Prim.Native.Nat.{_+_, min};
+ghost use Prim.Native.Nat.{_+_, min, _≤_};
 ghost use Rattle.thread_record.specs.declared.phase.Phase.the-variants.{Running, Validating, Copying};
-ghost use Rattle.thread_record.specs.Limits.{cursor-limit};
+ghost use Rattle.thread_record.specs.Limits.{count-limit, cursor-limit};
 ghost use Rattle.thread_record.specs.Records.{Is};
 use crate::phase::Phase;
 use crate::reading::furthest_cursor;
 use crate::record::Record;
 
 impl Record {
+    // At the first entry of so many, with no repeats.
+    fn at_start(phase: Phase, count: u32) -> Record
+        requires { ⌜ count ≤ count-limit phase ⌝ }
+        ensures { λ r. ⌜ Is phase count 0 0 r ⌝ }
+    {
+        Record {
+            phase,
+            count,
+            cursor: 0,
+            repeats: 0,
+        }
+    }
+
     // Nothing is counted.
     pub fn cleared(phase: Phase) -> Record
         ensures { λ r. ⌜ Is phase 0 0 0 r ⌝ }
     {
-        Record {
-            phase,
-            count: 0,
-            cursor: 0,
-            repeats: 0,
-        }
+        Record::at_start(phase, 0)
     }
 
     // Running, with so many entries.
     pub fn running(count: u32) -> Record
         ensures { λ r. ⌜ Is Running (min count 32) 0 0 r ⌝ }
     {
-        Record {
-            phase: Phase::Running,
-            count: count.min(32),
-            cursor: 0,
-            repeats: 0,
-        }
+        Record::at_start(Phase::Running, count.min(32))
     }
 
     pub fn committed(self) -> Record
         ensures { λ r. ⌜ Is Validating (self .count) 0 0 r ⌝ }
     {
-        Record {
-            phase: Phase::Validating,
-            count: self.count,
-            cursor: 0,
-            repeats: 0,
-        }
+        Record::at_start(Phase::Validating, self.count)
+    }
+
+    pub fn passed(self) -> Record
+        ensures { λ r. ⌜ Is Copying (self .count) 0 0 r ⌝ }
+    {
+        Record::at_start(Phase::Copying, self.count)
     }
 
     // One entry on, in the same phase.
@@ -65,17 +68,6 @@ impl Record {
             count: self.count,
             cursor: 0,
             repeats: (self.repeats + 1).min(4),
-        }
-    }
-
-    pub fn passed(self) -> Record
-        ensures { λ r. ⌜ Is Copying (self .count) 0 0 r ⌝ }
-    {
-        Record {
-            phase: Phase::Copying,
-            count: self.count,
-            cursor: 0,
-            repeats: 0,
         }
     }
 }

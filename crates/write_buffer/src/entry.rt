@@ -1,6 +1,6 @@
 // A buffered word.
 
-#[derive(Clone, Copy)]
+#[derive(Clone, Copy, PartialEq, Eq, Debug)]
 pub struct Entry {
     pub address: u32,
     pub word: u32,

@@ -4,3 +4,5 @@ mod entry;
 pub mod scan;
 
 pub use crate::entry::Entry;
+pub use crate::entry::EntryDebug;
+pub use crate::entry::EntryPartialEq;

@@ -7,7 +7,6 @@ use denote.Ref.{now}
 use lib.ListN.{getD, take}
 use Rattle.std.specs.declared.option.Option.the-variants.{Some}
 use Rattle.thread_record.specs.declared.phase.Phase.the-variants.{Aborted, Validating}
-use Rattle.conflict.specs.Conflicts.{line}
 use Rattle.board.specs.Admissions.{Has, Repeatable}
 use Rattle.board.specs.Changes.{Turns}
 use Rattle.thread_record.specs.Limits.{cursor-limit}

@@ -1,4 +1,4 @@
-use mathlib.Core.Path.{_≡_, sym, ap, subst, _∙_}
+use mathlib.Core.Path.{sym, ap, subst, _∙_}
 use mathlib.Core.Bool.{false}
 use Rattle.std.specs.declared.option.Option.the-variants.{None}
 use Rattle.refusal.specs.Rows.{nack-row}

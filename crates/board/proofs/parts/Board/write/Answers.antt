@@ -1,11 +1,9 @@
-use mathlib.Core.Path.{_≡_, sym, ap, subst, _∙_}
+use mathlib.Core.Path.{sym, ap, subst, _∙_}
 use mathlib.Core.List.{[], _∷_}
 use Prim.Native.Nat.{_+_, max, min, _≤_, _<_}
-use native.Mathlib.Omega.{arith}
 use borrow.Author.Needs.{needs}
 use denote.Ref.{now}
 use lib.Dec.{eqb}
-use lib.ListN.{length, take}
 use Rattle.std.specs.declared.option.Option.the-variants.{None}
 use Rattle.signature.specs.Meaning.{Inserted}
 use Rattle.thread_record.specs.declared.phase.Phase.the-variants.{Running}
@@ -16,7 +14,7 @@ use Rattle.thread_record.specs.Records.{Is}
 use Rattle.board.specs.Refusals.{full-row, refusal, write}
 use Rattle.board.specs.Rules.{put}
 use Rattle.board.specs.States.{Only}
-use Rattle.board.specs.Views.{part, view}
+use Rattle.board.specs.Views.{view}
 use Rattle.board.proofs.Outcomes.{passed-on}
 use Rattle.board.proofs.Owns.{line-fits}
 use Rattle.board.proofs.ReadBack.{min-left}
