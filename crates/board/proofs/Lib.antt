@@ -1,3 +1,4 @@
+mod Alone
 mod Areas
 mod Cursors
 mod Effects

@@ -26,7 +26,7 @@ rewound x = stored (x .phase) (x .buffer) 0 (x .repeats + 1) (x .area) (x .reads
 
 -- r and w are the kinds of the two rows of signatures, by their ghost members
 module _ {R W : Type 0} (r : Ghosts R) (w : Ghosts W) where
-  -- another thread nacks
+  -- thread u is another one than the requester, and nacks
   abbrev pub nacks : State R W → Option ℕ → ℕ → ℕ → Bool
   nacks s who l u = other who u && nacks-in (s .thread u .phase) (w .has (s .thread u .writes) l)
 

@@ -3,7 +3,6 @@ use refusal::Refusal;
 use refusal::RefusalDebug;
 use refusal::RefusalPartialEq;
 use refusal::Stepped;
-use refusal::SteppedDebug;
 use refusal::SteppedPartialEq;
 use register::Register128;
 use register::Register1024;
@@ -59,9 +58,9 @@ fn a_33rd_address_is_refused_and_a_held_one_is_not() -> Result<(), Fail> {
     with_board!(board, [IDLE; 2]);
     board.begin(0)?;
     write_all(&mut board, 0, 32)?;
-    check_eq(board.write(0, 32, 1), Err(Refusal::BufferFull(0)))?;
-    check_eq(board.write(0, 31, 1), Ok(()))?;
-    check_eq(board.read(0, 31), Ok(1))
+    check(board.write(0, 32, 1) == Err(Refusal::BufferFull(0)))?;
+    check(board.write(0, 31, 1) == Ok(()))?;
+    check(board.read(0, 31) == Ok(1))
 }
 
 #[test]
@@ -69,9 +68,9 @@ fn without_writes_a_commit_passes_and_ends() -> Result<(), Fail> {
     with_board!(board, [IDLE; 2]);
     board.begin(1)?;
     board.commit(1)?;
-    check_eq(board.step(1), Ok(Stepped::Passed))?;
-    check_eq(board.step(1), Ok(Stepped::Ended))?;
-    check_eq(board.step(1), Err(Refusal::WrongPhase(Phase::Idle)))
+    check(board.step(1) == Ok(Stepped::Passed))?;
+    check(board.step(1) == Ok(Stepped::Ended))?;
+    check(board.step(1) == Err(Refusal::WrongPhase(Phase::Idle)))
 }
 
 // Thread 0 copies on the line that thread 1 asks for; its own fetch was the first to send thread 1 back.
@@ -84,23 +83,23 @@ fn four_repeats_and_a_nacked_fetch_are_lost() -> Result<(), Fail> {
     board.begin(0)?;
     board.write(0, 8, 1)?;
     board.commit(0)?;
-    check_eq(board.step(0), Ok(Stepped::Fetched))?;
-    check_eq(board.step(0), Ok(Stepped::Passed))?;
+    check(board.step(0) == Ok(Stepped::Fetched))?;
+    check(board.step(0) == Ok(Stepped::Passed))?;
     for _ in 0..3 {
-        check_eq(board.step(1), Ok(Stepped::Repeated(0)))?;
+        check(board.step(1) == Ok(Stepped::Repeated(0)))?;
     }
-    check_eq(board.step(1), Ok(Stepped::Lost))?;
-    check_eq(board.step(1), Err(Refusal::Aborted(1)))?;
-    check_eq(board.abandon(1), Ok(()))
+    check(board.step(1) == Ok(Stepped::Lost))?;
+    check(board.step(1) == Err(Refusal::Aborted(1)))?;
+    check(board.abandon(1) == Ok(()))
 }
 
 #[test]
 fn the_upper_row_of_the_table_wins() -> Result<(), Fail> {
     with_board!(board, [IDLE; 2]);
-    check_eq(board.read(2, 320), Err(Refusal::NoThread(2)))?;
-    check_eq(board.read(0, 320), Err(Refusal::NoAddress(320)))?;
-    check_eq(board.read(0, 319), Err(Refusal::WrongPhase(Phase::Idle)))?;
-    check_eq(board.plain_read(320), Err(Refusal::NoAddress(320)))
+    check(board.read(2, 320) == Err(Refusal::NoThread(2)))?;
+    check(board.read(0, 320) == Err(Refusal::NoAddress(320)))?;
+    check(board.read(0, 319) == Err(Refusal::WrongPhase(Phase::Idle)))?;
+    check(board.plain_read(320) == Err(Refusal::NoAddress(320)))
 }
 
 // A running record beyond its limits is read as one with 32 entries, all of them for address 0.
@@ -113,9 +112,9 @@ fn garbage_in_a_record_is_read_by_its_limits() -> Result<(), Fail> {
         repeats: 9,
     };
     with_board!(board, [running; 2]);
-    check_eq(board.write(0, 1, 5), Err(Refusal::BufferFull(0)))?;
-    check_eq(board.write(0, 0, 5), Ok(()))?;
-    check_eq(board.read(0, 0), Ok(5))?;
-    check_eq(board.commit(1), Ok(()))?;
-    check_eq(board.step(1), Ok(Stepped::Fetched))
+    check(board.write(0, 1, 5) == Err(Refusal::BufferFull(0)))?;
+    check(board.write(0, 0, 5) == Ok(()))?;
+    check(board.read(0, 0) == Ok(5))?;
+    check(board.commit(1) == Ok(()))?;
+    check(board.step(1) == Ok(Stepped::Fetched))
 }

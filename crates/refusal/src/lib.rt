@@ -7,5 +7,4 @@ pub use crate::refusal::Refusal;
 pub use crate::refusal::RefusalDebug;
 pub use crate::refusal::RefusalPartialEq;
 pub use crate::stepped::Stepped;
-pub use crate::stepped::SteppedDebug;
 pub use crate::stepped::SteppedPartialEq;

@@ -1,6 +1,6 @@
 // What an accepted step did.
 
-#[derive(Clone, Copy, PartialEq, Eq, Debug)]
+#[derive(Clone, Copy, PartialEq, Eq)]
 pub enum Stepped {
     Fetched,
     Repeated(u32),

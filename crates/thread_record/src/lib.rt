@@ -9,6 +9,5 @@ pub use crate::phase::Phase;
 pub use crate::phase::PhaseDebug;
 pub use crate::phase::PhasePartialEq;
 pub use crate::plain::PlainRecord;
-pub use crate::plain::PlainRecordDebug;
 pub use crate::plain::PlainRecordPartialEq;
 pub use crate::record::Record;

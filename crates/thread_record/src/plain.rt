@@ -1,6 +1,6 @@
 // A thread's record as the row holds it: any four numbers.
 
-#[derive(Clone, Copy, PartialEq, Eq, Debug)]
+#[derive(Clone, Copy, PartialEq, Eq)]
 pub struct PlainRecord {
     pub phase: u32,
     pub count: u32,

@@ -1,6 +1,6 @@
 // A buffered word.
 
-#[derive(Clone, Copy, PartialEq, Eq, Debug)]
+#[derive(Clone, Copy, PartialEq, Eq)]
 pub struct Entry {
     pub address: u32,
     pub word: u32,

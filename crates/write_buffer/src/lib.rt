@@ -4,5 +4,4 @@ mod entry;
 pub mod scan;
 
 pub use crate::entry::Entry;
-pub use crate::entry::EntryDebug;
 pub use crate::entry::EntryPartialEq;

@@ -1,5 +1,4 @@
 use mathlib.Core.Path.{sym, ap, _∙_}
-use borrow.Author.Needs.{needs}
 use denote.Ref.{now}
 use lib.ListN.{getD}
 use Rattle.std.specs.declared.option.Option.the-variants.{None}
@@ -8,8 +7,9 @@ use Rattle.thread_record.specs.Phases.{is-running}
 use Rattle.refusal.specs.Rows.{phase-rows}
 use Rattle.board.specs.Refusals.{commit, refusal}
 use Rattle.board.specs.Rules.{committed, commits}
-use Rattle.board.specs.States.{Only, stored}
+use Rattle.board.specs.States.{stored}
 use Rattle.board.specs.Views.{part, view}
+use Rattle.board.proofs.Alone.{record-only}
 use Rattle.board.proofs.Outcomes.{passed-on}
 use Rattle.board.proofs.Owns.{own-buffer}
 use Rattle.board.proofs.Turning.{stored-thread}
@@ -40,14 +40,13 @@ returns g c =
     let b′ = c .store-record .last .self in
     let before = c .in-Continue-before .before in
     let found = c .in-Continue-before .ensures tt in
-    let only : (d : g .R .Denot) (e : g .W .Denot) → Only t (view b d e .words) (view b d e) (view b′ d e) = search needs in
     record {
       follows = λ d e.
           commits
           (sym (c .in-Continue-check-running .ensures tt .decides None ∙ ap (λ p. phase-rows is-running p t None) (found .accepts .reads .phase) ∙ found .decides d e (phase-rows is-running (view b d e .thread t .phase) t None)))
-          (only d e)
+          (record-only t b b′ d e (c .store-record .ensures))
           (stored-thread t b (found .accepts .has) b′ (c .committed .result) Validating (before .count) 0 0 (c .committed .ensures) (c .store-record .ensures) d e
           ∙ (λ i. stored Validating (sym (own-buffer t before b (found .accepts) d e) i) 0 0 (part t (now (b .entries))) (getD (now (b .reads)) t d) (getD (now (b .writes)) t e)));
       unaltered = tt;
-      parts = search needs;
+      parts = c .store-record .ensures .parts;
     }

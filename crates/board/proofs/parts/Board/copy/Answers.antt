@@ -7,10 +7,10 @@ use lib.ListN.{length, getD, take}
 use Rattle.thread_record.specs.declared.phase.Phase.the-variants.{Copying}
 use Rattle.thread_record.specs.Limits.{cursor-limit, repeats-limit}
 use Rattle.board.specs.Rules.{Stores, copies}
-use Rattle.board.specs.States.{Only}
 use Rattle.board.specs.Views.{blank, part, thread-of, view}
+use Rattle.board.proofs.Alone.{record-only}
 use Rattle.board.proofs.Cursors.{at-cursor, moved, on-board, read-at, stored-then}
-use Rattle.board.proofs.Progress.{has-still}
+use Rattle.board.proofs.Progress.{has-still, parts-then}
 use Rattle.board.proofs.ReadBack.{min-left}
 use Rattle.board.proofs.parts.Board.copy.Needs as need
 
@@ -33,14 +33,13 @@ returns g c =
     let room = subst (λ p. before .cursor + 1 ≤ cursor-limit p (before .count)) (sym (ready .phase)) further in
     let inside : entry .address < length (now (b .words)) = on-board t before b admitted (c .pre .1) entry counted in
     let first : (d : g .R .Denot) (e : g .W .Denot) → Stores (entry .address) (entry .word) (view b d e) (view b₁ d e) = search needs in
-    let then : (d : g .R .Denot) (e : g .W .Denot) → Only t (view b₁ d e .words) (view b₁ d e) (view b₂ d e) = search needs in
     record {
       follows = λ d e.
           copies entry (ready .accepted d e) (sym (admitted .reads .phase) ∙ ready .phase) (at-cursor t before b admitted (c .pre .1) entry counted d e)
-          (stored-then t (entry .address) (entry .word) (view b d e) (view b₁ d e) (view b₂ d e) (first d e) (then d e))
+          (stored-then t (entry .address) (entry .word) (view b d e) (view b₁ d e) (view b₂ d e) (first d e) (record-only t b₁ b₂ d e (c .store-record .ensures)))
           (moved t before b admitted b₁ b₂ (c .advanced .result) Copying (view b d e .thread t .cursor + 1) 0 d e (has-still b b₁ t (stored .parts) (admitted .has))
           (λ i. thread-of (getD (stored .records i) t blank) (part t (stored .entries i)) (getD (stored .reads i) t d) (getD (stored .writes i) t e))
           (record { phase = advanced .phase ∙ ready .phase; count = advanced .count; cursor = advanced .cursor ∙ min-left (before .cursor + 1) (cursor-limit (before .phase) (before .count)) room ∙ ap (λ n. n + 1) (admitted .reads .cursor); repeats = advanced .repeats ∙ zero-repeats })
           (c .store-record .ensures));
-      parts = search needs;
+      parts = parts-then b b₁ (stored .parts) (c .store-record .ensures .parts);
     }

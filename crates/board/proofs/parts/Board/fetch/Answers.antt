@@ -2,7 +2,6 @@ use mathlib.Core.Path.{_≡_, sym, ap, subst, _∙_}
 use mathlib.Core.Bool.{true}
 use Prim.Native.Nat.{_+_, _≤_, _<_}
 use native.Mathlib.Omega.{arith}
-use borrow.Author.Needs.{needs}
 use denote.Ref.{now}
 use lib.ListN.{getD, take}
 use Rattle.std.specs.declared.option.Option.the-variants.{Some}
@@ -12,8 +11,8 @@ use Rattle.board.specs.Changes.{Turns}
 use Rattle.thread_record.specs.Limits.{cursor-limit}
 use Rattle.board.specs.Requests.{Cleared, Requested, nacker, rewound}
 use Rattle.board.specs.Rules.{fetches, is-lost, is-nacked}
-use Rattle.board.specs.States.{Only}
 use Rattle.board.specs.Views.{part, view}
+use Rattle.board.proofs.Alone.{record-only}
 use Rattle.board.proofs.Cursors.{at-cursor, moved, on-board, read-at}
 use Rattle.board.proofs.Effects.{aborts-after-four, four-when}
 use Rattle.board.proofs.Loads.{own-not-other}
@@ -47,11 +46,10 @@ returns-in-Ok g c =
     let room = subst (λ p. before .cursor + 1 ≤ cursor-limit p (before .count)) (sym (ready .phase)) further in
     let asked = subst (λ l. (d : g .R .Denot) (e : g .W .Denot) → Requested (g .R·Signature) (g .W·Signature) true (Some t) l (view b d e) (view b₁ d e)) on-line (c .in-Ok .ensures tt .0) in
     let parts = c .in-Ok .ensures tt .1 in
-    let only : (d : g .R .Denot) (e : g .W .Denot) → Only t (view b₁ d e .words) (view b₁ d e) (view b₂ d e) = search needs in
     record {
       follows = λ d e.
           fetches {s₁ = view b₁ d e} entry (ready .accepted d e) (sym (admitted .reads .phase) ∙ ready .phase) (at-cursor t before b admitted (c .pre .1) entry counted d e)
-          (asked d e) (only d e)
+          (asked d e) (record-only t b₁ b₂ d e (c .store-record .ensures))
           (moved t before b admitted b₁ b₂ (c .advanced .result) Validating (view b d e .thread t .cursor + 1) (view b d e .thread t .repeats) d e
           (has-still b b₁ t parts (admitted .has)) (asked d e .own t (admitted .has .thread) (own-not-other t))
           (record { phase = advanced .phase ∙ ready .phase; count = advanced .count; cursor = advanced .cursor ∙ min-left (before .cursor + 1) (cursor-limit (before .phase) (before .count)) room ∙ ap (λ n. n + 1) (admitted .reads .cursor); repeats = advanced .repeats ∙ admitted .reads .repeats })

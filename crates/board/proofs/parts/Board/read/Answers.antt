@@ -1,6 +1,5 @@
 use mathlib.Core.Path.{sym, ap, ap₂, subst, _∙_}
 use mathlib.Core.Bool.{false}
-use borrow.Author.Needs.{needs}
 use Rattle.std.specs.declared.option.Option.the-variants.{Some, None}
 use Rattle.signature.specs.Meaning.{Inserted}
 use Rattle.refusal.specs.Rows.{read-row}
@@ -10,8 +9,8 @@ use Rattle.board.specs.Changes.{Reads-turned}
 use Rattle.board.specs.Refusals.{read, refusal}
 use Rattle.board.specs.Requests.{Requested, nacker}
 use Rattle.board.specs.Rules.{got, reads-own}
-use Rattle.board.specs.States.{Only}
 use Rattle.board.specs.Views.{view}
+use Rattle.board.proofs.Alone.{reads-only}
 use Rattle.board.proofs.Loads.{loaded}
 use Rattle.board.proofs.Outcomes.{nacked-by, passed-on, same-parts}
 use Rattle.board.proofs.Owns.{line-fits, own-lookup}
@@ -73,14 +72,13 @@ returns g c =
     let on-line = c .line-of-line .ensures ∙ line-fits b (found .accepts .2 .fits) a (found .accepts .2 .address) in
     let asked = subst (λ l. (d : g .R .Denot) (e : g .W .Denot) → Requested (g .R·Signature) (g .W·Signature) false (Some t) l (view b d e) (view b₁ d e)) on-line (c .in-rest-request .ensures tt .0) in
     let turned = subst (λ l. Reads-turned t (λ s s′. Inserted (g .R·Signature .has) (g .R·Signature .inserts) s l s′) b₁ b₂) on-line (c .insert-read .ensures) in
-    let only : (d : g .R .Denot) (e : g .W .Denot) → Only t (view b₁ d e .words) (view b₁ d e) (view b₂ d e) = search needs in
     record {
       follows = λ d e.
           let own = own-lookup t (c .in-Continue-record .record) b (found .accepts .0) d e a None (c .buffer .result .now) (c .buffer .ensures .holds) (c .in-rest .ensures tt) in
           let nacking = nacker (g .R·Signature) (g .W·Signature) (view b d e) (Some t) (line a) in
           loaded (g .R·Signature) (g .W·Signature) t a (c .word-at .result) b b₁ b₂ d e (found .accepts .0 .has .thread)
           (sym (found .decides d e (read-row (lookup (view b d e .thread t .buffer) a) nacking)) ∙ ap₂ read-row own (asked d e .free)) own
-          (asked d e) turned (only d e) (c .word-at .ensures);
+          (asked d e) turned (reads-only t b₁ b₂ d e turned) (c .word-at .ensures);
       unaltered = tt;
       parts = parts-then b b₁ (c .in-rest-request .ensures tt .1) (c .insert-read .ensures .parts);
     }

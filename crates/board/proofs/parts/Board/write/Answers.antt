@@ -13,11 +13,12 @@ use Rattle.board.specs.Changes.{Entry-stored, Writes-turned}
 use Rattle.thread_record.specs.Records.{Is}
 use Rattle.board.specs.Refusals.{full-row, refusal, write}
 use Rattle.board.specs.Rules.{put}
-use Rattle.board.specs.States.{Only}
 use Rattle.board.specs.Views.{view}
+use Rattle.board.proofs.Alone.{entry-only, only-then, record-only, writes-only}
 use Rattle.board.proofs.Outcomes.{passed-on}
 use Rattle.board.proofs.Owns.{line-fits}
 use Rattle.board.proofs.ReadBack.{min-left}
+use Rattle.board.proofs.Progress.{parts-then}
 use Rattle.board.proofs.Puts.{no-room, put-rule}
 use Rattle.board.proofs.parts.Board.write.Needs as need
 
@@ -66,14 +67,14 @@ returns g c =
     let most : max (before .count) (c .place-of-place .result + 1) ≤ 32 = search needs in
     let is = subst (λ n. Is Running n 0 0 (c .running .result)) (ap (λ n. min n 32) (c .max .ensures) ∙ min-left _ 32 most ∙ ap (λ n. max (before .count) (n + 1)) at) (c .running .ensures) in
     let told = subst (λ l. Writes-turned t (λ s s′. Inserted (g .W·Signature .has) (g .W·Signature .inserts) s l s′) b₂ b₃) on-line (c .insert-write .ensures) in
-    let only : (d : g .R .Denot) (e : g .W .Denot) → Only t (view b d e .words) (view b d e) (view b₃ d e) = search needs in
     record {
       follows = λ d e.
           put-rule (g .R·Signature) (g .W·Signature) t a v before b b₁ b₂ b₃ (found .accepts .0) (subst (λ n. n < 32) at small) put-in (c .running .result) is (c .store-record .ensures) told d e
           (sym (c .in-Continue-check-room .ensures tt .decides None
           ∙ ap (λ full. row full 7 (t ∷ []) None) (ap (λ n. eqb n 32) at ∙ no-room t a before b (found .accepts .0) d e)
           ∙ found .decides d e (full-row (view b d e .thread t .buffer) t a None)))
-          (only d e);
+          (only-then t (view b d e) (view b₁ d e) (view b₃ d e) (entry-only t b b₁ d e put-in)
+          (only-then t (view b₁ d e) (view b₂ d e) (view b₃ d e) (record-only t b₁ b₂ d e (c .store-record .ensures)) (writes-only t b₂ b₃ d e told)));
       unaltered = tt;
-      parts = search needs;
+      parts = parts-then b b₁ (put-in .parts) (parts-then b₁ b₂ (c .store-record .ensures .parts) (told .parts));
     }
