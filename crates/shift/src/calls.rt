@@ -53,7 +53,7 @@ pub impl From<Result<Stepped, Refusal>> for Answer as AnswerFromStep {
 }
 
 impl Call {
-    pub fn on<R: Signature, W: Signature>(
+    pub(crate) fn on<R: Signature, W: Signature>(
         self,
         board: &mut Board<'_, '_, '_, '_, '_, R, W>,
     ) -> Answer {

@@ -45,7 +45,7 @@ pub struct Worker {
 }
 
 impl Worker {
-    pub fn new(name: &'static str, thread: u32, pages: u32) -> Worker {
+    pub(crate) fn new(name: &'static str, thread: u32, pages: u32) -> Worker {
         Worker {
             name,
             thread,
@@ -131,7 +131,7 @@ pub struct Clerk {
 }
 
 impl Clerk {
-    pub fn new(pages: u32) -> Clerk {
+    pub(crate) fn new(pages: u32) -> Clerk {
         Clerk {
             pages,
             waiting: 0,
