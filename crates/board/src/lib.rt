@@ -1,4 +1,6 @@
 // The word board: transactions over words, with signatures to notice conflicts.
+#![tactic(auto)]
+
 mod changes;
 mod checks;
 mod opening;

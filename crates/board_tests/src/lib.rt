@@ -1,4 +1,6 @@
 // Examples of what the board answers, run as tests.
+#![tactic(auto)]
+
 #[cfg(test)]
 mod opening;
 #[cfg(test)]

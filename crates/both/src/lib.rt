@@ -1,4 +1,6 @@
 // Two signatures as one: a line hits where both hit.
+#![tactic(auto)]
+
 ghost use Rattle.std.specs.Prelude.{◌&&◌};
 
 use signature::Signature;

@@ -1,4 +1,6 @@
 // A signature over groups of four lines: it is told, and asked for, the group's number.
+#![tactic(auto)]
+
 ghost use Rattle.std.specs.Prelude.{◌/◌};
 
 use signature::Signature;

@@ -1,4 +1,6 @@
 // Conflicts: what a request for a line does to one other thread.
+#![tactic(auto)]
+
 mod access;
 mod effect;
 pub mod line;

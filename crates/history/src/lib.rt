@@ -1,4 +1,6 @@
 // Opening a board, with the promise that every run of its calls is serial.
+#![tactic(auto)]
+
 ghost use Rattle.std.specs.Prelude.{OnOk};
 ghost use Rattle.board.specs.Views.{Opens, view};
 ghost use Rattle.history.specs.Law.{SerialOrder};

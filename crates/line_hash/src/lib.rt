@@ -1,4 +1,6 @@
 // The four hashes of a line.
+#![tactic(auto)]
+
 ghost use Rattle.std.specs.Prelude.{◌≡◌, ℕ, ◌<◌, slice_index};
 ghost use Rattle.line_hash.specs.Hashes.{permuted, second_hash, third_hash, fourth_hash};
 

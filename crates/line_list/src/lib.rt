@@ -1,4 +1,6 @@
 // A list of up to sixteen lines, which hits on every line once a seventeenth has come.
+#![tactic(auto)]
+
 ghost use Rattle.std.specs.Prelude.{◌≡◌, ◌+◌, ◌<◌, ◌≤◌, nat_lt, slice_set};
 ghost use Rattle.line_list.specs.Lines.{lines_of, no_lines, hits, inserted};
 

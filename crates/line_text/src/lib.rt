@@ -1,4 +1,6 @@
 // Line numbers out of a text, one to a line.
+#![tactic(auto)]
+
 ghost use Rattle.std.specs.Prelude.{◌≡◌, ◌+◌, ◌<◌, ◌≤◌, ◌∷◌, length, take, drop, IfOk};
 ghost use Rattle.line_text.specs.Texts.{one_more, number_of, lines_of, numbers_in, malformed_from};
 

@@ -1,4 +1,6 @@
 // Loads and stores of single words; beyond the words there is 0, and nothing is stored.
+#![tactic(auto)]
+
 ghost use Rattle.std.specs.Prelude.{◌≡◌, slice_index, slice_set};
 
 pub fn load(words: &[u32], address: u32) -> u32

@@ -1,4 +1,6 @@
 // Punches a card: inserts the lines of standard input into a signature of each kind, and prints what became of them.
+#![tactic(auto)]
+
 use both::Both;
 use card::listing::{insertion, summary};
 use coarse::Coarse;

@@ -1,4 +1,6 @@
 // Refusals and the other answers of the calls, and the rows of the refusal table on a thread's phase.
+#![tactic(auto)]
+
 mod refusal;
 pub mod rows;
 mod stepped;

@@ -1,4 +1,6 @@
 // A register of bits: a line sets four of them, and hits where all its four are set.
+#![tactic(auto)]
+
 ghost use Rattle.std.specs.Prelude.{◌≡◌, ◌%◌, ◌^◌, ◌<◌, ◌≤◌, [], ◌∷◌, replicate, if◌then◌else◌, ◌==◌, bit_or};
 ghost use Rattle.line_hash.specs.Hashes.{bit_of};
 ghost use Rattle.register.specs.Packed.{width, is_set, all_set, ones_in, bits_of, Cleared, Sets};

@@ -1,4 +1,6 @@
 // One task on a board, call by call: two workers take pages while a clerk writes between two steps of a commit.
+#![tactic(auto)]
+
 mod calls;
 mod people;
 

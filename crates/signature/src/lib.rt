@@ -1,4 +1,6 @@
 // What a signature means.
+#![tactic(auto)]
+
 ghost use Rattle.std.specs.Prelude.{◌≡◌, ℕ, Bool};
 ghost use Rattle.signature.specs.Meaning.{Emptied, Inserted};
 

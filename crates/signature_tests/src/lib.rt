@@ -1,4 +1,6 @@
 // Examples that every kind must give, run as tests.
+#![tactic(auto)]
+
 #[cfg(test)]
 mod kinds;
 #[cfg(test)]

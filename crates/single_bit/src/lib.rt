@@ -1,4 +1,6 @@
 // A signature of one bit, as poor as the meaning allows: after the first insert it hits on every line.
+#![tactic(auto)]
+
 ghost use Rattle.std.specs.Prelude.{◌≡◌, true, false};
 
 use signature::Signature;

@@ -1,4 +1,6 @@
 // A thread's record: plain numbers in the row, and what is read of them.
+#![tactic(auto)]
+
 mod phase;
 mod plain;
 pub mod reading;

@@ -1,4 +1,6 @@
 // The counted entries of a thread: its buffered words.
+#![tactic(auto)]
+
 pub mod area;
 mod entry;
 pub mod scan;

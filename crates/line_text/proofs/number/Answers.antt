@@ -11,13 +11,13 @@ returns-in-err-number c =
 
 pub loop-byte-preserved : goal.loop-byte-preserved
 loop-byte-preserved c =
-    let came = sym c.next-digit.ensures ∙ c.in-ok-number.was in (
-      longer_number c.args.line.now c.loop-byte.number c.loop-byte.byte-index (omega arith) c.loop-byte.invariant.0 c.in-ok-number.number came,
-      still_small c.loop-byte.number (get_or c.args.line.now c.loop-byte.byte-index 0) c.in-ok-number.number came,
+    let came = sym c.next_digit.ensures ∙ c.in_ok-number.was in (
+      longer_number c.args.line.now c.loop-byte.number c.loop-byte.byte-index (omega arith) c.loop-byte.invariant.0 c.in_ok-number.number came,
+      still_small c.loop-byte.number (get_or c.args.line.now c.loop-byte.byte-index 0) c.in_ok-number.number came,
     )
 
 pub returns : goal.returns
 returns c =
-    let none = eqb-false (length c.args.line.now) 0 (sym c.if-is-empty.ensures) in
+    let none = eqb-false (length c.args.line.now) 0 (sym c.if-is_empty.ensures) in
     let some : 0 < length c.args.line.now = omega (arith, none) in
     whole_number c.args.line.now c.loop-byte.number c.loop-byte.byte-index some (omega arith) c.loop-byte.invariant.0

@@ -20,10 +20,10 @@ pub loop-start-preserved : goal.loop-start-preserved
 loop-start-preserved c =
     let text = c.args.text.now in
     let start = c.loop-start.start in
-    let r = c.line-length.result in
-    let splits = c.line-length.ensures.splits in
+    let r = c.line_length.result in
+    let splits = c.line_length.ensures.splits in
     let some = sym c.in-Some.ensures in
-    let pushed = chosen _ _ _ _ c.push.ensures.items (ap is_ok c.in-ok-push.was) in (
+    let pushed = chosen _ _ _ _ c.push.ensures.items (ap is_ok c.in_ok-push.was) in (
       ap (λ ns. ns ++ numbers_in (lines_of (drop (start + r + 1) text))) pushed
           ∙ numbers_more text start r c.loop-start-test.true splits _ _ c.in-Some.line some c.loop-start.invariant.0,
       place_more text start r c.loop-start-test.true splits c.loop-start.place c.in-Some.line _ some c.loop-start.invariant.1,
