@@ -3,11 +3,11 @@ use Rattle.std.proofs.lemmas.Bool.{eqb-false}
 use Rattle.line_text.proofs.TextLaws.{no_number, longer_number, still_small, whole_number}
 use Rattle.line_text.proofs.number.Goals as goal
 
-pub returns-in-err-number : goal.returns-in-err-number
-returns-in-err-number c =
-    c.from-residual.ensures
+pub returns-in_err-number : goal.returns-in_err-number
+returns-in_err-number c =
+    c.from_residual.ensures
     ∙ no_number c.args.line.now c.loop-byte.number c.loop-byte.byte-index (omega arith) c.loop-byte.invariant.0
-    (sym c.next-digit.ensures ∙ c.in-err-number.was)
+    (sym c.next_digit.ensures ∙ c.in_err-number.was)
 
 pub loop-byte-preserved : goal.loop-byte-preserved
 loop-byte-preserved c =

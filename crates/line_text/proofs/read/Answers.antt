@@ -5,13 +5,13 @@ use Rattle.line_text.specs.Texts.{lines_of, numbers_in, malformed_from}
 use Rattle.line_text.proofs.TextLaws.{numbers_more, place_more, numbers_end, place_here}
 use Rattle.line_text.proofs.read.Goals as goal
 
-pub returns-in-default : goal.returns-in-default
-returns-in-default c =
+pub returns-in_default : goal.returns-in_default
+returns-in_default c =
     let text = c.args.text.now in
     let start = c.loop-start.start in
-    let r = c.line-length.result in
-    let splits = c.line-length.ensures.splits in
-    let none = sym c.in-default.ensures in (
+    let r = c.line_length.result in
+    let splits = c.line_length.ensures.splits in
+    let none = sym c.in_default.ensures in (
       numbers_end text start r c.loop-start-test.true splits _ _ none c.loop-start.invariant.0,
       place_here text start r c.loop-start-test.true splits c.loop-start.place _ none c.loop-start.invariant.1,
     )

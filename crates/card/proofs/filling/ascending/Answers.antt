@@ -7,7 +7,7 @@ use Rattle.card.proofs.filling.ascending.Goals as goal
 
 pub loop-number-preserved : goal.loop-number-preserved
 loop-number-preserved c =
-    keeps_more (λ n. among n c.args.numbers.now) c.loop-number.number _ _ c.is-among.result c.loop-number.invariant c.is-among.ensures c.in-ok-keep-if.ensures
+    keeps_more (λ n. among n c.args.numbers.now) c.loop-number.number _ _ c.is_among.result c.loop-number.invariant c.is_among.ensures c.in_ok-keep_if.ensures
 
 pub returns : goal.returns
 unfolding ascending_of

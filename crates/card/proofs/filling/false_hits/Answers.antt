@@ -6,8 +6,8 @@ use Rattle.card.proofs.filling.false_hits.Goals as goal
 
 pub loop-line-preserved : goal.loop-line-preserved
 loop-line-preserved c = (
-  counts_more (λ line. not (among line c.args.inserted.now)) c.args.hits.now c.loop-line.line-index c.loop-line.count c.from-count.result (not c.is-among.result) (omega arith) c.loop-line.invariant.0 (ap not c.is-among.ensures) c.from-count.ensures,
-  omega (arith, at_most_one (not c.is-among.result), c.from-count.ensures),
+  counts_more (λ line. not (among line c.args.inserted.now)) c.args.hits.now c.loop-line.line-index c.loop-line.count c.from-count.result (not c.is_among.result) (omega arith) c.loop-line.invariant.0 (ap not c.is_among.ensures) c.from-count.ensures,
+  omega (arith, at_most_one (not c.is_among.result), c.from-count.ensures),
 )
 
 pub returns : goal.returns

@@ -6,7 +6,7 @@ use Rattle.card.proofs.filling.hits.Goals as goal
 
 pub loop-line-preserved : goal.loop-line-preserved
 loop-line-preserved g c =
-    keeps_more (g.S.Signature.has c.args.signature.now) c.loop-line.line _ _ c.hit.result c.loop-line.invariant c.hit.ensures c.in-ok-keep-if.ensures
+    keeps_more (g.S.Signature.has c.args.signature.now) c.loop-line.line _ _ c.hit.result c.loop-line.invariant c.hit.ensures c.in_ok-keep_if.ensures
 
 pub returns : goal.returns
 unfolding hitting

@@ -8,6 +8,6 @@ returns g c =
     let words = c.args.self.now.words in
     let bit = c.place-bit.result in
     let inside : bit / 64 < length words = search rules in
-    subst (λ word. Sets g.row.WORDS words (c.args.hash % width g.row.WORDS ∷ []) (set words (bit / 64) word)) (sym c.with-bit.ensures)
+    subst (λ word. Sets g.row.WORDS words (c.args.hash % width g.row.WORDS ∷ []) (set words (bit / 64) word)) (sym c.with_bit.ensures)
     (subst (λ b. Sets g.row.WORDS words (b ∷ []) (set words (bit / 64) (marked words bit))) c.place-bit.ensures
     (λ k _. one_set words bit inside k))

@@ -8,8 +8,8 @@ pub loop-bit-preserved : goal.loop-bit-preserved
 loop-bit-preserved g c =
     let words = c.args.self.now.words in
     let bit = c.loop-bit.bit in (
-      ap (λ n. n + c.one-if-count.result) c.loop-bit.invariant.0 ∙ counts_more (is_set words) bit c.one-if-count.result c.one-if-count.ensures,
-      omega (arith, at_most_one (is_set words bit), c.one-if-count.ensures),
+      ap (λ n. n + c.one_if-count.result) c.loop-bit.invariant.0 ∙ counts_more (is_set words) bit c.one_if-count.result c.one_if-count.ensures,
+      omega (arith, at_most_one (is_set words bit), c.one_if-count.ensures),
     )
 
 pub returns : goal.returns

@@ -7,32 +7,32 @@ use Rattle.board.specs.Views.{view}
 use Rattle.board.proofs.Outcomes.{passed_on}
 use Rattle.board.proofs.parts.Board.begin.Goals as goal
 
-pub returns-in-err-record : goal.returns-in-err-record
+pub returns-in_err-record : goal.returns-in_err-record
 unfolding refusal
-returns-in-err-record g c =
+returns-in_err-record g c =
     let t = c.args.thread in
-    passed_on g.R.Signature g.W.Signature (begin t) (λ _. began t) c.args.self.now c.in-err-record.was
-    (λ d e. c.in-err-record.ensures.decides d e (phase_rows is_idle ((view c.args.self.now d e).thread t).phase t None))
-    c.from-residual.result c.from-residual.ensures.1
+    passed_on g.R.Signature g.W.Signature (begin t) (λ _. began t) c.args.self.now c.in_err-record.was
+    (λ d e. c.in_err-record.ensures.decides d e (phase_rows is_idle ((view c.args.self.now d e).thread t).phase t None))
+    c.from_residual.result c.from_residual.ensures.1
 
-pub returns-in-err-check-idle : goal.returns-in-err-check-idle
+pub returns-in_err-check_idle : goal.returns-in_err-check_idle
 unfolding refusal
-returns-in-err-check-idle g c =
+returns-in_err-check_idle g c =
     let t = c.args.thread in
-    let found = c.in-ok-record.ensures in
-    passed_on g.R.Signature g.W.Signature (begin t) (λ _. began t) c.args.self.now c.in-err-check-idle.was
-    (λ d e. c.in-err-check-idle.ensures None ∙ ap (λ p. phase_rows is_idle p t None) found.accepts.reads.phase ∙ found.decides d e (phase_rows is_idle ((view c.args.self.now d e).thread t).phase t None))
-    c.from-residual-in-err-check-idle.result c.from-residual-in-err-check-idle.ensures.1
+    let found = c.in_ok-record.ensures in
+    passed_on g.R.Signature g.W.Signature (begin t) (λ _. began t) c.args.self.now c.in_err-check_idle.was
+    (λ d e. c.in_err-check_idle.ensures None ∙ ap (λ p. phase_rows is_idle p t None) found.accepts.reads.phase ∙ found.decides d e (phase_rows is_idle ((view c.args.self.now d e).thread t).phase t None))
+    c.from_residual-in_err-check_idle.result c.from_residual-in_err-check_idle.ensures.1
 
 pub returns : goal.returns
 unfolding refusal
 returns g c =
     let t = c.args.thread in
-    let found = c.in-ok-record.ensures in
+    let found = c.in_ok-record.ensures in
     record {
       follows = λ d e.
           begins
-          (sym (c.in-ok-check-idle.ensures None ∙ ap (λ p. phase_rows is_idle p t None) found.accepts.reads.phase ∙ found.decides d e (phase_rows is_idle ((view c.args.self.now d e).thread t).phase t None)))
+          (sym (c.in_ok-check_idle.ensures None ∙ ap (λ p. phase_rows is_idle p t None) found.accepts.reads.phase ∙ found.decides d e (phase_rows is_idle ((view c.args.self.now d e).thread t).phase t None)))
           (c.start.ensures.only d e) (c.start.ensures.thread d e);
       unaltered = tt;
       parts = c.start.ensures.parts;

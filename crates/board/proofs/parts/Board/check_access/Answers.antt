@@ -6,13 +6,13 @@ use Rattle.board.specs.Views.{view}
 use Rattle.board.proofs.Outcomes.{decided_on, made_none}
 use Rattle.board.proofs.parts.Board.check_access.Goals as goal
 
-pub returns-in-err-record : goal.returns-in-err-record
-returns-in-err-record g c =
+pub returns-in_err-record : goal.returns-in_err-record
+returns-in_err-record g c =
     let t = c.args.thread in
     record {
       decides = λ d e after.
           let s = view c.args.self.now d e in
-          decided_on c.in-err-record.was c.from-residual.result after c.from-residual.ensures.1
-          ∙ c.in-err-record.ensures.decides d e (address_row s c.args.address (phase_rows is_running (s.thread t).phase t after));
-      accepts = made_none c.in-err-record.was _ c.from-residual.result c.from-residual.ensures.1;
+          decided_on c.in_err-record.was c.from_residual.result after c.from_residual.ensures.1
+          ∙ c.in_err-record.ensures.decides d e (address_row s c.args.address (phase_rows is_running (s.thread t).phase t after));
+      accepts = made_none c.in_err-record.was _ c.from_residual.result c.from_residual.ensures.1;
     }

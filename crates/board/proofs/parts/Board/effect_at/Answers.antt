@@ -9,7 +9,7 @@ pub returns : goal.returns
 returns g c = λ d e.
     let b = c.args.self.now in
     let u = c.args.u in
-    let read = c.record-of.ensures in
+    let read = c.record_of.ensures in
     let inside = in_rows u b c.requires in
     let reads = get_or_read b.reads.now u c.index-reads-t.result inside.0 c.index-reads-t.is d in
     let writes = get_or_read b.writes.now u c.index-writes-t.result inside.1 c.index-writes-t.is e in

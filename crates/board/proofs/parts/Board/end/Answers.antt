@@ -15,8 +15,8 @@ returns g c =
     let t = c.args.thread in
     let before = c.args.before in
     let b = c.args.self.now in
-    let b₁ = c.store-record.new.self in
-    let b₂ = c.reset-writes.new.self in
+    let b₁ = c.store_record.new.self in
+    let b₂ = c.reset_writes.new.self in
     let ready = c.requires.0 in
     let admitted = ready.admitted in
     let reached = subst (λ p. before.cursor ≤ cursor_limit p before.count) ready.phase before.reached in
@@ -24,9 +24,9 @@ returns g c =
       follows = λ d e.
           let q = get_or b₂.writes.now t e in
           ends (ready.accepted d e) (sym admitted.reads.phase ∙ ready.phase) (at_end t before b admitted c.requires.1 reached d e)
-          (only_then t (view b d e) (view b₁ d e) (view b₂ d e) (record_only t b b₁ d e c.store-record.ensures) (writes_only t b₁ b₂ d e c.reset-writes.ensures)) q
-          (subst (λ x. Emptied g.W.Signature.has g.W.Signature.resets x q) (ap (λ xs. get_or xs t e) c.store-record.ensures.writes) (c.reset-writes.ensures.turned e))
-          (writes_thread b₁ b₂ c.reset-writes.ensures d e
-          ∙ ap (λ x. with_writes x q) (stored_thread t b admitted.has b₁ c.cleared.result Idle 0 0 0 c.cleared.ensures c.store-record.ensures d e));
-      parts = parts_then b b₁ c.store-record.ensures.parts c.reset-writes.ensures.parts;
+          (only_then t (view b d e) (view b₁ d e) (view b₂ d e) (record_only t b b₁ d e c.store_record.ensures) (writes_only t b₁ b₂ d e c.reset_writes.ensures)) q
+          (subst (λ x. Emptied g.W.Signature.has g.W.Signature.resets x q) (ap (λ xs. get_or xs t e) c.store_record.ensures.writes) (c.reset_writes.ensures.turned e))
+          (writes_thread b₁ b₂ c.reset_writes.ensures d e
+          ∙ ap (λ x. with_writes x q) (stored_thread t b admitted.has b₁ c.cleared.result Idle 0 0 0 c.cleared.ensures c.store_record.ensures d e));
+      parts = parts_then b b₁ c.store_record.ensures.parts c.reset_writes.ensures.parts;
     }

@@ -20,7 +20,7 @@ rewind-requires g c =
     let t = c.args.thread in
     let admitted = c.requires.0.admitted in
     subst (λ z. Has t z × Repeatable t z) (sym c.in-Err.ensures.1)
-    (admitted.has, record { phase = sym admitted.reads.phase ∙ c.requires.0.phase; repeats = λ four. c.in-default.not-Aborts (c.one-more.ensures ∙ aborts_after_four c.args.before.repeats (admitted.reads.repeats ∙ four)) })
+    (admitted.has, record { phase = sym admitted.reads.phase ∙ c.requires.0.phase; repeats = λ four. c.in_default.not-Aborts (c.one_more.ensures ∙ aborts_after_four c.args.before.repeats (admitted.reads.repeats ∙ four)) })
 
 pub returns-in-Ok : goal.returns-in-Ok
 returns-in-Ok g c =
@@ -30,11 +30,11 @@ returns-in-Ok g c =
     let entry = get_or c.buffer.result.now before.cursor (record { address = 0; word = 0 }) in
     let counted = read_at c.buffer.result.now (take before.count (part t b.entries.now)) before.cursor (record { address = 0; word = 0 }) c.buffer.ensures.holds (subst (λ n. before.cursor < n) (sym c.buffer.ensures.long) c.requires.1) in
     let b₁ = c.request.new.self in
-    let b₂ = c.store-record.new.self in
+    let b₂ = c.store_record.new.self in
     let ready = c.requires.0 in
     let admitted = ready.admitted in
     let inside = on_board t before b admitted c.requires.1 entry counted in
-    let on_line = c.line-of.ensures ∙ line_fits b admitted.has.fits entry.address inside in
+    let on_line = c.line_of.ensures ∙ line_fits b admitted.has.fits entry.address inside in
     let advanced = c.advanced.ensures in
     let further : before.cursor + 1 ≤ before.count = omega (arith, c.requires.1) in
     let room = subst (λ p. before.cursor + 1 ≤ cursor_limit p before.count) (sym ready.phase) further in
@@ -43,12 +43,12 @@ returns-in-Ok g c =
     record {
       follows = λ d e.
           fetches {s₁ = view b₁ d e} entry (ready.accepted d e) (sym admitted.reads.phase ∙ ready.phase) (at_cursor t before b admitted c.requires.1 entry counted d e)
-          (asked d e) (record_only t b₁ b₂ d e c.store-record.ensures)
+          (asked d e) (record_only t b₁ b₂ d e c.store_record.ensures)
           (moved t before b admitted b₁ b₂ c.advanced.result Validating (((view b d e).thread t).cursor + 1) ((view b d e).thread t).repeats d e
           (has_still b b₁ t parts admitted.has) ((asked d e).own t admitted.has.thread (own_not_other t))
           (record { phase = advanced.phase ∙ ready.phase; count = advanced.count; cursor = advanced.cursor ∙ min_left (before.cursor + 1) (cursor_limit before.phase before.count) room ∙ ap (λ n. n + 1) admitted.reads.cursor; repeats = advanced.repeats ∙ admitted.reads.repeats })
-          c.store-record.ensures);
-      parts = parts_then b b₁ parts c.store-record.ensures.parts;
+          c.store_record.ensures);
+      parts = parts_then b b₁ parts c.store_record.ensures.parts;
     }
 
 pub returns-in-Aborts : goal.returns-in-Aborts
@@ -62,7 +62,7 @@ returns-in-Aborts g c =
     let ready = c.requires.0 in
     let admitted = ready.admitted in
     let inside = on_board t before b admitted c.requires.1 entry counted in
-    let on_line = c.line-of.ensures ∙ line_fits b admitted.has.fits entry.address inside in
+    let on_line = c.line_of.ensures ∙ line_fits b admitted.has.fits entry.address inside in
     let turns = subst (λ z. Turns t (Cleared g.R.Signature g.W.Signature Aborted) z b₂) c.in-Err.ensures.1 c.abort.ensures in
     record {
       follows = λ d e.
@@ -72,8 +72,8 @@ returns-in-Aborts g c =
       parts = turns.parts;
     }
 
-pub returns-in-default : goal.returns-in-default
-returns-in-default g c =
+pub returns-in_default : goal.returns-in_default
+returns-in_default g c =
     let t = c.args.thread in
     let before = c.args.before in
     let b = c.args.self.now in
@@ -83,12 +83,12 @@ returns-in-default g c =
     let ready = c.requires.0 in
     let admitted = ready.admitted in
     let inside = on_board t before b admitted c.requires.1 entry counted in
-    let on_line = c.line-of.ensures ∙ line_fits b admitted.has.fits entry.address inside in
+    let on_line = c.line_of.ensures ∙ line_fits b admitted.has.fits entry.address inside in
     let turns = subst (λ z. Turns t (λ x y. y ≡ rewound x) z b₂) c.in-Err.ensures.1 c.rewind.ensures in
     record {
       follows = λ d e.
           is_nacked entry (ready.accepted d e) (sym admitted.reads.phase ∙ ready.phase) (at_cursor t before b admitted c.requires.1 entry counted d e)
           (ap (λ l. nacker g.R.Signature g.W.Signature (view b d e) (Some t) l) (sym on_line) ∙ c.in-Err.ensures.0 d e)
-          (λ four. c.in-default.not-Aborts (c.one-more.ensures ∙ aborts_after_four before.repeats (admitted.reads.repeats ∙ four))) (turns.only d e) (turns.thread d e);
+          (λ four. c.in_default.not-Aborts (c.one_more.ensures ∙ aborts_after_four before.repeats (admitted.reads.repeats ∙ four))) (turns.only d e) (turns.thread d e);
       parts = turns.parts;
     }

@@ -6,16 +6,16 @@ use Rattle.board.proofs.Outcomes.{not_opened, same_parts}
 use Rattle.board.proofs.Progress.{progress_none, progress_more, progress_all, same_fits, parts_then}
 use Rattle.board.proofs.parts.Board.open.Goals as goal
 
-pub returns-in-err-check-parts : goal.returns-in-err-check-parts
-returns-in-err-check-parts g c =
-    not_opened g.R.Signature g.W.Signature c.args.self.now c.in-err-check-parts.was
-    (λ d e. c.in-err-check-parts.ensures.decides d e None) c.from-residual.result c.from-residual.ensures.1
+pub returns-in_err-check_parts : goal.returns-in_err-check_parts
+returns-in_err-check_parts g c =
+    not_opened g.R.Signature g.W.Signature c.args.self.now c.in_err-check_parts.was
+    (λ d e. c.in_err-check_parts.ensures.decides d e None) c.from_residual.result c.from_residual.ensures.1
 
 pub release-requires : goal.release-requires
 release-requires g c =
     let parts = c.loop-t.invariant.1 in
     record {
-      fits = same_fits c.args.self.now c.loop-t.self parts ∙ c.in-ok-check-parts.ensures.accepts;
+      fits = same_fits c.args.self.now c.loop-t.self parts ∙ c.in_ok-check_parts.ensures.accepts;
       thread = subst (λ n. c.loop-t.t < n) (sym parts.records_long) c.loop-t-test.true;
     }
 
@@ -36,7 +36,7 @@ returns g c =
     let b' = c.loop-t.self in
     let walked = c.loop-t.invariant.0 in
     record {
-      decides = λ d e. c.in-ok-check-parts.ensures.decides d e None;
+      decides = λ d e. c.in_ok-check_parts.ensures.decides d e None;
       opened = λ d e. record {
         threads = progress_all (λ _. Cleared g.R.Signature g.W.Signature Idle) c.loop-t.t (view b d e) (view b' d e) c.loop-t-test.false (walked d e);
         memory = (walked d e).memory;

@@ -15,8 +15,8 @@ returns g c =
     let t = c.args.thread in
     let before = c.args.before in
     let b = c.args.self.now in
-    let b₁ = c.store-record.new.self in
-    let b₂ = c.reset-reads.new.self in
+    let b₁ = c.store_record.new.self in
+    let b₂ = c.reset_reads.new.self in
     let ready = c.requires.0 in
     let admitted = ready.admitted in
     let reached = subst (λ p. before.cursor ≤ cursor_limit p before.count) ready.phase before.reached in
@@ -24,9 +24,9 @@ returns g c =
       follows = λ d e.
           let q = get_or b₂.reads.now t d in
           passes (ready.accepted d e) (sym admitted.reads.phase ∙ ready.phase) (at_end t before b admitted c.requires.1 reached d e)
-          (only_then t (view b d e) (view b₁ d e) (view b₂ d e) (record_only t b b₁ d e c.store-record.ensures) (reads_only t b₁ b₂ d e c.reset-reads.ensures)) q
-          (subst (λ x. Emptied g.R.Signature.has g.R.Signature.resets x q) (ap (λ xs. get_or xs t d) c.store-record.ensures.reads) (c.reset-reads.ensures.turned d))
-          (reads_thread b₁ b₂ c.reset-reads.ensures d e
-          ∙ ap (λ x. with_reads x q) (moved t before b admitted b b₁ c.passed.result Copying 0 0 d e admitted.has refl c.passed.ensures c.store-record.ensures));
-      parts = parts_then b b₁ c.store-record.ensures.parts c.reset-reads.ensures.parts;
+          (only_then t (view b d e) (view b₁ d e) (view b₂ d e) (record_only t b b₁ d e c.store_record.ensures) (reads_only t b₁ b₂ d e c.reset_reads.ensures)) q
+          (subst (λ x. Emptied g.R.Signature.has g.R.Signature.resets x q) (ap (λ xs. get_or xs t d) c.store_record.ensures.reads) (c.reset_reads.ensures.turned d))
+          (reads_thread b₁ b₂ c.reset_reads.ensures d e
+          ∙ ap (λ x. with_reads x q) (moved t before b admitted b b₁ c.passed.result Copying 0 0 d e admitted.has refl c.passed.ensures c.store_record.ensures));
+      parts = parts_then b b₁ c.store_record.ensures.parts c.reset_reads.ensures.parts;
     }

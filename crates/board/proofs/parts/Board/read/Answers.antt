@@ -15,16 +15,16 @@ use Rattle.board.proofs.Owns.{line_fits, own_lookup}
 use Rattle.board.proofs.Progress.{parts_then}
 use Rattle.board.proofs.parts.Board.read.Goals as goal
 
-pub returns-in-err-record : goal.returns-in-err-record
+pub returns-in_err-record : goal.returns-in_err-record
 unfolding refusal
-returns-in-err-record g c =
+returns-in_err-record g c =
     let t = c.args.thread in
     let a = c.args.address in
-    passed_on g.R.Signature g.W.Signature (read t a) (λ v. got t a v) c.args.self.now c.in-err-record.was
+    passed_on g.R.Signature g.W.Signature (read t a) (λ v. got t a v) c.args.self.now c.in_err-record.was
     (λ d e.
     let s = view c.args.self.now d e in
-    c.in-err-record.ensures.decides d e (read_row (lookup (s.thread t).buffer a) (nacker g.R.Signature g.W.Signature s (Some t) (line a))))
-    c.from-residual.result c.from-residual.ensures.1
+    c.in_err-record.ensures.decides d e (read_row (lookup (s.thread t).buffer a) (nacker g.R.Signature g.W.Signature s (Some t) (line a))))
+    c.from_residual.result c.from_residual.ensures.1
 
 pub returns-in-Some : goal.returns-in-Some
 unfolding refusal
@@ -32,10 +32,10 @@ returns-in-Some g c =
     let t = c.args.thread in
     let a = c.args.address in
     let b = c.args.self.now in
-    let found = c.in-ok-record.ensures in
+    let found = c.in_ok-record.ensures in
     record {
       follows = λ d e.
-          let own = own_lookup t c.in-ok-record.record b found.accepts.0 d e a (Some c.in-Some.word) c.buffer.result.now c.buffer.ensures.holds c.in-Some.ensures in
+          let own = own_lookup t c.in_ok-record.record b found.accepts.0 d e a (Some c.in-Some.word) c.buffer.result.now c.buffer.ensures.holds c.in-Some.ensures in
           let nacking = nacker g.R.Signature g.W.Signature (view b d e) (Some t) (line a) in
           reads_own (sym (found.decides d e (read_row (lookup ((view b d e).thread t).buffer a) nacking)) ∙ ap (λ o. read_row o nacking) own) own;
       unaltered = tt;
@@ -48,12 +48,12 @@ returns-in-Err g c =
     let t = c.args.thread in
     let a = c.args.address in
     let b = c.args.self.now in
-    let found = c.in-ok-record.ensures in
-    let on_line = c.line-of-line.ensures ∙ line_fits b found.accepts.2.fits a found.accepts.2.address in
+    let found = c.in_ok-record.ensures in
+    let on_line = c.line_of-line.ensures ∙ line_fits b found.accepts.2.fits a found.accepts.2.address in
     nacked_by g.R.Signature g.W.Signature (read t a) (λ v. got t a v) b c.in-Err.by c.request.new.self
     (λ d e.
     let s = view b d e in
-    let own = own_lookup t c.in-ok-record.record b found.accepts.0 d e a None c.buffer.result.now c.buffer.ensures.holds c.in-default.ensures in
+    let own = own_lookup t c.in_ok-record.record b found.accepts.0 d e a None c.buffer.result.now c.buffer.ensures.holds c.in_default.ensures in
     let nacking = ap (λ l. nacker g.R.Signature g.W.Signature s (Some t) l) (sym on_line) ∙ c.in-Err.ensures.0 d e in
     sym (ap₂ read_row own nacking) ∙ found.decides d e (read_row (lookup (s.thread t).buffer a) (nacker g.R.Signature g.W.Signature s (Some t) (line a))))
     c.in-Err.ensures.1
@@ -65,18 +65,18 @@ returns g c =
     let a = c.args.address in
     let b = c.args.self.now in
     let b₁ = c.request.new.self in
-    let b₂ = c.insert-read.new.self in
-    let found = c.in-ok-record.ensures in
-    let on_line = c.line-of-line.ensures ∙ line_fits b found.accepts.2.fits a found.accepts.2.address in
-    let asked = subst (λ l. (d : g.row.R.Denot) (e : g.row.W.Denot) → Requested g.R.Signature g.W.Signature false (Some t) l (view b d e) (view b₁ d e)) on_line c.in-default-request.ensures.0 in
-    let turned = subst (λ l. ReadsTurned t (λ s s'. Inserted g.R.Signature.has g.R.Signature.inserts s l s') b₁ b₂) on_line c.insert-read.ensures in
+    let b₂ = c.insert_read.new.self in
+    let found = c.in_ok-record.ensures in
+    let on_line = c.line_of-line.ensures ∙ line_fits b found.accepts.2.fits a found.accepts.2.address in
+    let asked = subst (λ l. (d : g.row.R.Denot) (e : g.row.W.Denot) → Requested g.R.Signature g.W.Signature false (Some t) l (view b d e) (view b₁ d e)) on_line c.in_default-request.ensures.0 in
+    let turned = subst (λ l. ReadsTurned t (λ s s'. Inserted g.R.Signature.has g.R.Signature.inserts s l s') b₁ b₂) on_line c.insert_read.ensures in
     record {
       follows = λ d e.
-          let own = own_lookup t c.in-ok-record.record b found.accepts.0 d e a None c.buffer.result.now c.buffer.ensures.holds c.in-default.ensures in
+          let own = own_lookup t c.in_ok-record.record b found.accepts.0 d e a None c.buffer.result.now c.buffer.ensures.holds c.in_default.ensures in
           let nacking = nacker g.R.Signature g.W.Signature (view b d e) (Some t) (line a) in
-          loaded g.R.Signature g.W.Signature t a c.word-at.result b b₁ b₂ d e found.accepts.0.has.thread
+          loaded g.R.Signature g.W.Signature t a c.word_at.result b b₁ b₂ d e found.accepts.0.has.thread
           (sym (found.decides d e (read_row (lookup ((view b d e).thread t).buffer a) nacking)) ∙ ap₂ read_row own (asked d e).free) own
-          (asked d e) turned (reads_only t b₁ b₂ d e turned) c.word-at.ensures;
+          (asked d e) turned (reads_only t b₁ b₂ d e turned) c.word_at.ensures;
       unaltered = tt;
-      parts = parts_then b b₁ c.in-default-request.ensures.1 c.insert-read.ensures.parts;
+      parts = parts_then b b₁ c.in_default-request.ensures.1 c.insert_read.ensures.parts;
     }

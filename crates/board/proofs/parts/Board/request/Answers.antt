@@ -28,6 +28,6 @@ returns g c = (
   λ d e.
       all_asked g.R.Signature g.W.Signature (is_exclusive c.args.access) c.args.requester c.args.line c.loop-u.u
       (view c.args.self.now d e) (view c.loop-u.self d e)
-      c.loop-u-test.false (sym (c.in-default.ensures d e)) (c.loop-u.invariant.0 d e),
+      c.loop-u-test.false (sym (c.in_default.ensures d e)) (c.loop-u.invariant.0 d e),
   c.loop-u.invariant.1,
 )

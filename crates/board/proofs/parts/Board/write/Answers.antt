@@ -16,31 +16,31 @@ use Rattle.board.proofs.Progress.{parts_then}
 use Rattle.board.proofs.Puts.{no_room, put_rule}
 use Rattle.board.proofs.parts.Board.write.Goals as goal
 
-pub returns-in-err-before : goal.returns-in-err-before
+pub returns-in_err-before : goal.returns-in_err-before
 unfolding refusal
-returns-in-err-before g c =
+returns-in_err-before g c =
     let t = c.args.thread in
     let a = c.args.address in
     let v = c.args.word in
-    passed_on g.R.Signature g.W.Signature (write t a v) (λ _. put t a v) c.args.self.now c.in-err-before.was
-    (λ d e. c.in-err-before.ensures.decides d e (full_row ((view c.args.self.now d e).thread t).buffer t a None))
-    c.from-residual.result c.from-residual.ensures.1
+    passed_on g.R.Signature g.W.Signature (write t a v) (λ _. put t a v) c.args.self.now c.in_err-before.was
+    (λ d e. c.in_err-before.ensures.decides d e (full_row ((view c.args.self.now d e).thread t).buffer t a None))
+    c.from_residual.result c.from_residual.ensures.1
 
-pub returns-in-err-check-room : goal.returns-in-err-check-room
+pub returns-in_err-check_room : goal.returns-in_err-check_room
 unfolding refusal
-returns-in-err-check-room g c =
+returns-in_err-check_room g c =
     let t = c.args.thread in
     let a = c.args.address in
     let v = c.args.word in
     let b = c.args.self.now in
-    let found = c.in-ok-before.ensures in
-    let at = c.place-of-place.ensures.found ∙ ap (λ xs. place xs a) c.buffer.ensures.holds in
-    passed_on g.R.Signature g.W.Signature (write t a v) (λ _. put t a v) b c.in-err-check-room.was
+    let found = c.in_ok-before.ensures in
+    let at = c.place_of-place.ensures.found ∙ ap (λ xs. place xs a) c.buffer.ensures.holds in
+    passed_on g.R.Signature g.W.Signature (write t a v) (λ _. put t a v) b c.in_err-check_room.was
     (λ d e.
-    c.in-err-check-room.ensures.decides None
-    ∙ ap (λ full. row full 7 (t ∷ []) None) (ap (λ n. eqb n 32) at ∙ no_room t a c.in-ok-before.before b found.accepts.0 d e)
+    c.in_err-check_room.ensures.decides None
+    ∙ ap (λ full. row full 7 (t ∷ []) None) (ap (λ n. eqb n 32) at ∙ no_room t a c.in_ok-before.before b found.accepts.0 d e)
     ∙ found.decides d e (full_row ((view b d e).thread t).buffer t a None))
-    c.from-residual-in-err-check-room.result c.from-residual-in-err-check-room.ensures.1
+    c.from_residual-in_err-check_room.result c.from_residual-in_err-check_room.ensures.1
 
 pub returns : goal.returns
 unfolding refusal
@@ -49,26 +49,26 @@ returns g c =
     let a = c.args.address in
     let v = c.args.word in
     let b = c.args.self.now in
-    let b₁ = c.store-entry.new.self in
-    let b₂ = c.store-record.new.self in
-    let b₃ = c.insert-write.new.self in
-    let before = c.in-ok-before.before in
-    let found = c.in-ok-before.ensures in
-    let at = c.place-of-place.ensures.found ∙ ap (λ xs. place xs a) c.buffer.ensures.holds in
-    let on_line = c.line-of.ensures ∙ line_fits b found.accepts.2.fits a found.accepts.2.address in
-    let small : c.place-of-place.result < 32 = search rules in
-    let put_in = subst (λ n. EntryStored t n (record { address = a; word = v }) b b₁) at c.store-entry.ensures in
-    let most : max before.count (c.place-of-place.result + 1) ≤ 32 = search rules in
+    let b₁ = c.store_entry.new.self in
+    let b₂ = c.store_record.new.self in
+    let b₃ = c.insert_write.new.self in
+    let before = c.in_ok-before.before in
+    let found = c.in_ok-before.ensures in
+    let at = c.place_of-place.ensures.found ∙ ap (λ xs. place xs a) c.buffer.ensures.holds in
+    let on_line = c.line_of.ensures ∙ line_fits b found.accepts.2.fits a found.accepts.2.address in
+    let small : c.place_of-place.result < 32 = search rules in
+    let put_in = subst (λ n. EntryStored t n (record { address = a; word = v }) b b₁) at c.store_entry.ensures in
+    let most : max before.count (c.place_of-place.result + 1) ≤ 32 = search rules in
     let is = subst (λ n. Is Running n 0 0 c.running.result) (ap (λ n. min n 32) c.max.ensures ∙ min_left _ 32 most ∙ ap (λ n. max before.count (n + 1)) at) c.running.ensures in
-    let told = subst (λ l. WritesTurned t (λ s s'. Inserted g.W.Signature.has g.W.Signature.inserts s l s') b₂ b₃) on_line c.insert-write.ensures in
+    let told = subst (λ l. WritesTurned t (λ s s'. Inserted g.W.Signature.has g.W.Signature.inserts s l s') b₂ b₃) on_line c.insert_write.ensures in
     record {
       follows = λ d e.
-          put_rule g.R.Signature g.W.Signature t a v before b b₁ b₂ b₃ found.accepts.0 (subst (λ n. n < 32) at small) put_in c.running.result is c.store-record.ensures told d e
-          (sym (c.in-ok-check-room.ensures.decides None
+          put_rule g.R.Signature g.W.Signature t a v before b b₁ b₂ b₃ found.accepts.0 (subst (λ n. n < 32) at small) put_in c.running.result is c.store_record.ensures told d e
+          (sym (c.in_ok-check_room.ensures.decides None
           ∙ ap (λ full. row full 7 (t ∷ []) None) (ap (λ n. eqb n 32) at ∙ no_room t a before b found.accepts.0 d e)
           ∙ found.decides d e (full_row ((view b d e).thread t).buffer t a None)))
           (only_then t (view b d e) (view b₁ d e) (view b₃ d e) (entry_only t b b₁ d e put_in)
-          (only_then t (view b₁ d e) (view b₂ d e) (view b₃ d e) (record_only t b₁ b₂ d e c.store-record.ensures) (writes_only t b₂ b₃ d e told)));
+          (only_then t (view b₁ d e) (view b₂ d e) (view b₃ d e) (record_only t b₁ b₂ d e c.store_record.ensures) (writes_only t b₂ b₃ d e told)));
       unaltered = tt;
-      parts = parts_then b b₁ put_in.parts (parts_then b₁ b₂ c.store-record.ensures.parts told.parts);
+      parts = parts_then b b₁ put_in.parts (parts_then b₁ b₂ c.store_record.ensures.parts told.parts);
     }
