@@ -10,6 +10,7 @@ use register::{Register, Register128, Register1024};
 use std::alloc::Global;
 use std::io;
 use std::io::Read;
+use std::process::ExitCode;
 
 // Inserts the lines into a register, and says what became of it.
 fn punch_register<const WORDS: usize>(
@@ -47,7 +48,7 @@ fn show_insertions(rt: &HostRuntime, lines: &[u16]) -> io::Result<()> {
 }
 
 // The lines are inserted before anything is said of them, also where a malformed line ends the run.
-fn main(rt: HostRuntime) -> io::Result<()> {
+fn main(rt: HostRuntime) -> io::Result<ExitCode> {
     let mut text = Vec::new(rt.alloc());
     rt.stdin().read_to_end(&mut text)?;
     let reading = read(rt.alloc(), &text)?;
@@ -55,10 +56,10 @@ fn main(rt: HostRuntime) -> io::Result<()> {
     show_insertions(&rt, &reading.lines)?;
     if let Some(place) = reading.malformed {
         eprintln!(rt; "input line {place} is no number below 65536")?;
-        return Err(io::Error::from(io::ErrorKind::InvalidData));
+        return Ok(ExitCode::FAILURE);
     }
     for text in summaries {
         rt.println(text)?;
     }
-    Ok(())
+    Ok(ExitCode::SUCCESS)
 }
