@@ -1,5 +1,5 @@
 -- What is known of a thread once the table's rows on it are past. Assumes nothing.
-use Rattle.std.specs.Prelude.{◌≡◌, ℕ, ◌<◌, true, length, get_or, take, None, slice_index_or}
+use Rattle.std.specs.Prelude.{◌≡◌, ℕ, ◌<◌, true, length, take, None, slice_index_or}
 use Rattle.signature.specs.declared.Signature.{Ghosts}
 use Rattle.write_buffer.specs.Buffers.{all_below}
 use Rattle.board.specs.declared.parts.Board.{Board}
@@ -36,5 +36,5 @@ module _ {R W : Type 0} where
 
   -- the thread is validating, and may repeat once more
   pub record Repeatable (t : ℕ) (b : Board R W) : Type 0 where
-    pub phase : phase_of (get_or b.records.now t blank).phase ≡ Validating
-    pub repeats : repeats_as (phase_of (get_or b.records.now t blank).phase) (get_or b.records.now t blank).repeats ≡ 4 → ⊥
+    pub phase : phase_of (slice_index_or b.records.now t blank).phase ≡ Validating
+    pub repeats : repeats_as (phase_of (slice_index_or b.records.now t blank).phase) (slice_index_or b.records.now t blank).repeats ≡ 4 → ⊥

@@ -1,5 +1,5 @@
 -- The bits of an `or` and of a power of two. Assumes nothing.
-use Rattle.std.proofs.Common.{◌≡◌, ℕ, suc, ◌+◌, ◌-◌, ◌*◌, ◌/◌, ◌%◌, ◌^◌, ◌<◌, ◌≤◌, ◌≢◌, sym, ap, ◌∙◌, ⊎_elim, one-mul, arith, pow-add}
+use Rattle.std.proofs.Common.{◌≡◌, ℕ, suc, ◌+◌, ◌-◌, ◌/◌, ◌%◌, ◌^◌, ◌<◌, sym, ap, ◌∙◌, ⊎_elim, one-mul, arith, pow-add}
 use native.Mathlib.Nat.{div-eq_of_lt}
 use lib.Bits.{bit_or, or_shr, or_mod, shifted_even}
 use lib.Pow.{pow-lt, shl-shr}

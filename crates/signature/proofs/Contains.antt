@@ -1,5 +1,5 @@
 -- What `contains` answers of a list of numbers. Assumes nothing.
-use Rattle.std.proofs.Common.{◌≡◌, ℕ, Bool, eqb, List, Decides, sym, refl}
+use Rattle.std.proofs.Common.{◌≡◌, ℕ, Bool, eqb, List, sym, refl}
 use Rattle.std.specs.List.{IsAnyAnswer}
 use Rattle.std.proofs.lemmas.List.Elements.{contains_decides}
 use Rattle.std.proofs.lemmas.Bool.Decides.{Decides-eqb, Decides-by_or, Decides-like, same_from_decides}
