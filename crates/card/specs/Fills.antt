@@ -1,13 +1,12 @@
 -- A signature after some inserts, and what hits then. Assumes nothing.
-use Rattle.std.specs.Prelude.{◌≡◌, ℕ, Bool, not, List, [], ◌∷◌, count_by, filter}
-use Rattle.std.specs.List.{range_with_len}
+use Rattle.std.specs.Prelude.{ℕ, Bool, not, List, count_by, filter}
+use Rattle.std.specs.List.{FoldsTo, range_with_len}
 use Rattle.signature.specs.Meaning.{Inserted}
 use Rattle.signature.specs.Members.{among}
 
 -- the lines were inserted into s, one after the other and nothing else, and left t
 abbrev pub Filled : {S : Type 0} (has : S → ℕ → Bool) (inserts : S → ℕ → S → Type 0) → S → List ℕ → S → Type 0
-Filled has inserts s [] t = t ≡ s
-Filled {S} has inserts s (line ∷ lines) t = (next : S) × Inserted has inserts s line next × Filled has inserts next lines t
+Filled has inserts s lines t = FoldsTo (Inserted has inserts) s lines t
 
 -- those of the lines 0 to 63 that hit
 unfoldable pub hitting : (ℕ → Bool) → List ℕ

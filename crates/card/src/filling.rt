@@ -1,5 +1,5 @@
 // Filling a signature of any kind, and seeing what hits then.
-ghost use Rattle.std.specs.Prelude.{◌≡◌, [], ◌∷◌, ◌++◌, IfOk, if◌then◌else◌, OnOk};
+ghost use Rattle.std.specs.Prelude.{◌≡◌, IfOk};
 ghost use Rattle.card.specs.Fills.{Filled, hitting, never_inserted, ascending_of};
 
 use signature::Signature;
@@ -17,43 +17,26 @@ pub(crate) fn fill<S: Signature>(signature: &mut S, lines: &[u16])
     }
 }
 
-fn keep_if(found: &mut Vec<u16>, number: u16, wanted: bool) -> Result<(), AllocError>
-    ensures { OnOk result (found.new.items ≡ found.old.items ++ (if wanted then number ∷ [] else [])) }
-{
-    if wanted {
-        found.push(number)?;
-    }
-    Ok(())
-}
-
 pub(crate) fn hits<S: Signature>(heap: Global, signature: &S) -> Result<Vec<u16>, AllocError>
     ensures { IfOk result (λ v. v.items ≡ hitting (S.Signature.has signature.now)) }
 {
-    let mut found = Vec::new(heap);
-    for line in 0..SHOWN {
-        keep_if(&mut found, line, signature.hit(line))?;
-    }
-    Ok(found)
+    (0..SHOWN).filter(|line| signature.hit(*line)).collect(heap)
 }
 
 // How many of the hits were never inserted.
 pub(crate) fn false_hits(hits: &[u16], inserted: &[u16]) -> usize
     ensures { result ≡ never_inserted inserted.now hits.now }
 {
-    let mut count = 0;
-    for line in hits {
-        count += usize::from(!is_among(*line, inserted));
-    }
-    count
+    hits.iter()
+        .filter(|line| !is_among(**line, inserted))
+        .count()
 }
 
 // The numbers, all below `end`, each once and in ascending order.
 pub(crate) fn ascending(heap: Global, numbers: &[u16], end: u16) -> Result<Vec<u16>, AllocError>
     ensures { IfOk result (λ v. v.items ≡ ascending_of end numbers.now) }
 {
-    let mut found = Vec::new(heap);
-    for number in 0..end {
-        keep_if(&mut found, number, is_among(number, numbers))?;
-    }
-    Ok(found)
+    (0..end)
+        .filter(|number| is_among(*number, numbers))
+        .collect(heap)
 }

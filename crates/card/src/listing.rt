@@ -1,26 +1,20 @@
 // The lines of the listing, each without the newline that ends it.
-ghost use Rattle.std.specs.Prelude.{◌≡◌, ◌++◌, IfOk, string_bytes, decimal, OnOk};
+ghost use Rattle.std.specs.Prelude.{◌≡◌, ◌++◌, IfOk, string_bytes, decimal};
 ghost use Rattle.std.specs.List.{flat_map};
-ghost use Rattle.card.specs.Listings.{after_space, spaced_text, sets_text, insertion_text, hits_text, summary_text};
+ghost use Rattle.card.specs.Listings.{after_space, spaced_text, insertion_text, summary_text};
 ghost use Rattle.card.specs.Fills.{Filled, ascending_of};
 
 use crate::filling::{ascending, false_hits, fill, hits};
 use signature::Signature;
 use std::alloc::{AllocError, Global};
-
-fn append(heap: Global, text: &mut String, number: u16) -> Result<(), AllocError>
-    ensures { OnOk result (string_bytes text.new ≡ string_bytes text.old ++ after_space number) }
-{
-    let next = format!(in heap; " {number}")?;
-    text.push_str(next.as_str())
-}
+use std::fmt::Write;
 
 fn sequence(heap: Global, first: u16, rest: &[u16]) -> Result<String, AllocError>
     ensures { IfOk result (λ s. string_bytes s ≡ decimal first ++ flat_map after_space rest.now) }
 {
     let mut text = first.to_string(heap)?;
     for number in rest {
-        append(heap, &mut text, *number)?;
+        write!(text, " {number}")?;
     }
     Ok(text)
 }
@@ -41,12 +35,6 @@ fn bits_shown(heap: Global, bits: &[u16], end: u16) -> Result<String, AllocError
     spaced(heap, &shown)
 }
 
-fn insertion_line(heap: Global, line: u16, wide: &str, narrow: &str) -> Result<String, AllocError>
-    ensures { IfOk result (λ s. string_bytes s ≡ sets_text line wide.now narrow.now) }
-{
-    format!(in heap; "line {line}: 1024-bit register sets {wide}, 128-bit register sets {narrow}")
-}
-
 // What the insert of a line sets in the two registers, given its bits in each.
 pub fn insertion(
     heap: Global,
@@ -58,18 +46,7 @@ pub fn insertion(
 {
     let wide = bits_shown(heap, wide_bits, 1024)?;
     let narrow = bits_shown(heap, narrow_bits, 128)?;
-    insertion_line(heap, line, wide.as_str(), narrow.as_str())
-}
-
-fn summary_line(
-    heap: Global,
-    name: &str,
-    hits: &str,
-    false_hits: usize,
-) -> Result<String, AllocError>
-    ensures { IfOk result (λ s. string_bytes s ≡ hits_text name.now hits.now false_hits) }
-{
-    format!(in heap; "{name}: hits {hits}, {false_hits} false")
+    format!(in heap; "line {line}: 1024-bit register sets {wide}, 128-bit register sets {narrow}")
 }
 
 // Inserts the lines, and says which lines hit then and how many of these were never inserted.
@@ -85,5 +62,6 @@ pub fn summary<S: Signature>(
     fill(signature, lines);
     let found = hits(heap, signature)?;
     let shown = spaced(heap, &found)?;
-    summary_line(heap, name, shown.as_str(), false_hits(&found, lines))
+    let falsely = false_hits(&found, lines);
+    format!(in heap; "{name}: hits {shown}, {falsely} false")
 }

@@ -1,15 +1,12 @@
 -- The four hashes of a line. Assumes nothing.
-use Rattle.std.specs.Prelude.{ℕ, ◌+◌, ◌-◌, ◌*◌, ◌/◌, ◌%◌, ◌^◌, List, [], ◌∷◌, map}
+use Rattle.std.specs.Prelude.{ℕ, ◌+◌, ◌-◌, ◌*◌, ◌/◌, ◌^◌, List, [], ◌∷◌, map}
+use Rattle.std.specs.Int.{bit_at}
 use Rattle.std.specs.List.{range_with_len}
-
--- bit i of n, which is 0 or 1
-abbrev pub bit_of : ℕ → ℕ → ℕ
-bit_of n i = n / 2 ^ i % 2
 
 -- the number whose bit i is the bit of the line that entry i of the table names
 unfoldable pub permuted : List ℕ → ℕ → ℕ
 permuted [] line = 0
-permuted (t ∷ table) line = bit_of line t + 2 * permuted table line
+permuted (t ∷ table) line = bit_at line t + 2 * permuted table line
 
 -- the table of the second hash: bit i comes from bit 15 − i
 abbrev pub mirror : List ℕ

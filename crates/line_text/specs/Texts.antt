@@ -1,5 +1,6 @@
 -- A text of line numbers, one to a line. Assumes nothing.
-use Rattle.std.specs.Prelude.{ℕ, ◌+◌, ◌-◌, ◌*◌, Bool, cond, ◌&&◌, List, [], ◌∷◌, Some, None, Option, ◌==◌, nat_le, nat_lt}
+use Rattle.std.specs.Prelude.{ℕ, ◌+◌, ◌-◌, ◌*◌, if◌then◌else◌, ◌&&◌, List, [], ◌∷◌, length, Some, None, Option, option_and_then, ◌==◌, nat_lt}
+use Rattle.std.specs.Char.{is_ascii_digit}
 
 -- the byte in front of the first line
 abbrev pub in_front : ℕ → List (List ℕ) → List (List ℕ)
@@ -9,29 +10,20 @@ in_front b (line ∷ lines) = (b ∷ line) ∷ lines
 -- the lines of a text: byte 10 ends a line, and the last may lack it
 abbrev pub lines_of : List ℕ → List (List ℕ)
 lines_of [] = []
-lines_of (b ∷ text) = cond (b == 10) ([] ∷ lines_of text) (in_front b (lines_of text))
-
--- a byte from '0' to '9'
-abbrev pub digit : ℕ → Bool
-digit b = nat_le 48 b && nat_le b 57
-
--- the byte is a digit, and with it behind n the number stays below 65,536
-abbrev pub grows : ℕ → ℕ → Bool
-grows n b = digit b && nat_lt (10 * n + (b - 48)) 65536
+lines_of (b ∷ text) = if b == 10 then [] ∷ lines_of text else in_front b (lines_of text)
 
 -- the number that n and one more digit write, if the byte is one and the number stays below 65,536
 abbrev pub one_more : ℕ → ℕ → Option ℕ
-one_more n b = cond (grows n b) (Some (10 * n + (b - 48))) None
+one_more n b = if is_ascii_digit b && nat_lt (10 * n + (b - 48)) 65536 then Some (10 * n + (b - 48)) else None
 
 -- the number that n and the bytes after it write, if these are digits and it stays below 65,536
 abbrev pub digits_from : ℕ → List ℕ → Option ℕ
 digits_from n [] = Some n
-digits_from n (b ∷ bytes) = cond (grows n b) (digits_from (10 * n + (b - 48)) bytes) None
+digits_from n (b ∷ bytes) = option_and_then (λ m. digits_from m bytes) (one_more n b)
 
 -- the number below 65,536 that a line writes in decimal, if it does
 abbrev pub number_of : List ℕ → Option ℕ
-number_of [] = None
-number_of (b ∷ bytes) = digits_from 0 (b ∷ bytes)
+number_of line = if length line == 0 then None else digits_from 0 line
 
 -- a number, if there is one, in front of those of the lines after it
 abbrev pub and_those : Option ℕ → List ℕ → List ℕ

@@ -1,3 +1,2 @@
-mod BitLaws
-mod OnesLaws
-mod PackedLaws
+pub mod OnesLaws
+pub mod PackedLaws

@@ -1,7 +1,8 @@
 -- The bits of a register, sixty-four to a word. Assumes nothing.
-use Rattle.std.specs.Prelude.{◌≡◌, ℕ, ◌*◌, ◌/◌, ◌%◌, ◌<◌, Bool, true, false, ◌&&◌, ◌||◌, List, [], ◌∷◌, map, count_by, ◌==◌, slice_index}
-use Rattle.std.specs.List.{range_with_len}
-use Rattle.line_hash.specs.Hashes.{bit_of, hashes}
+use Rattle.std.specs.Prelude.{◌≡◌, ℕ, ◌*◌, ◌/◌, ◌%◌, ◌<◌, Bool, false, ◌||◌, List, map, count_by, ◌==◌, slice_index}
+use Rattle.std.specs.Int.{bit_at}
+use Rattle.std.specs.List.{list_all, range_with_len}
+use Rattle.line_hash.specs.Hashes.{hashes}
 use Rattle.signature.specs.Members.{among}
 
 -- how many bits there are in so many words
@@ -10,12 +11,15 @@ width count = 64 * count
 
 -- bit k is set
 abbrev pub is_set : List ℕ → ℕ → Bool
-is_set words k = bit_of (slice_index words (k / 64)) (k % 64) == 1
+is_set words k = bit_at (slice_index words (k / 64)) (k % 64) == 1
 
 -- each of these bits is set
 abbrev pub all_set : List ℕ → List ℕ → Bool
-all_set words [] = true
-all_set words (k ∷ ks) = is_set words k && all_set words ks
+all_set words ks = list_all (is_set words) ks
+
+-- how many bits of a word are set
+unfoldable pub word_ones : ℕ → ℕ
+word_ones word = count_by (λ place. bit_at word place == 1) (range_with_len 0 64)
 
 -- how many bits are set
 abbrev pub ones_in : ℕ → List ℕ → ℕ

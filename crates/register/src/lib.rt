@@ -1,9 +1,8 @@
 // A register of bits: a line sets four of them, and hits where all its four are set.
 #![tactic(auto)]
 
-ghost use Rattle.std.specs.Prelude.{◌≡◌, ◌%◌, ◌^◌, ◌<◌, ◌≤◌, [], ◌∷◌, replicate, if◌then◌else◌, ◌==◌, bit_or};
-ghost use Rattle.line_hash.specs.Hashes.{bit_of};
-ghost use Rattle.register.specs.Packed.{width, is_set, all_set, ones_in, bits_of, Cleared, Sets};
+ghost use Rattle.std.specs.Prelude.{◌≡◌, ◌%◌, ◌<◌, ◌≤◌, [], ◌∷◌};
+ghost use Rattle.register.specs.Packed.{width, is_set, all_set, word_ones, ones_in, bits_of, Cleared, Sets};
 
 use signature::Signature;
 
@@ -19,43 +18,23 @@ pub type Register1024 = Register<16>;
 
 pub type Register128 = Register<2>;
 
-fn zeros<const WORDS: usize>() -> [u64; WORDS]
-    ensures { result ≡ replicate WORDS 0 }
+#[tactic(auto, using(crate::proofs::OnesLaws::word_counted))]
+fn ones_of(word: u64) -> usize
+    ensures counts { result ≡ word_ones word }
+    ensures few { result ≤ 64 }
 {
-    [0; WORDS]
-}
-
-fn with_bit(word: u64, place: u16) -> u64
-    requires { place < 64 }
-    ensures { result ≡ bit_or word (2 ^ place) }
-{
-    word | (1 << place)
-}
-
-fn has_bit(word: u64, place: u16) -> bool
-    requires { place < 64 }
-    ensures { result ≡ (bit_of word place == 1) }
-{
-    (word >> place) % 2 == 1
-}
-
-impl Register<16> {
-    pub fn new() -> Self
-        ensures { Cleared 16 result.words }
-    {
-        Register { words: [0; 16] }
-    }
-}
-
-impl Register<2> {
-    pub fn new() -> Self
-        ensures { Cleared 2 result.words }
-    {
-        Register { words: [0; 2] }
-    }
+    word.count_ones() as usize
 }
 
 impl<const WORDS: usize> Register<WORDS> {
+    pub fn new() -> Self
+        requires some { 0 < WORDS }
+        requires few { WORDS ≤ 1024 }
+        ensures { Cleared WORDS result.words }
+    {
+        Register { words: [0; WORDS] }
+    }
+
     // The bits that a line sets, one for each hash.
     pub fn bits(&self, line: u16) -> [u16; 4]
         ensures { result ≡ bits_of WORDS line }
@@ -72,44 +51,29 @@ impl<const WORDS: usize> Register<WORDS> {
     pub fn ones(&self) -> usize
         ensures { result ≡ ones_in WORDS self.now.words }
     {
-        let mut count = 0;
-        for bit in 0..64 * WORDS {
-            count += self.one_if(bit as u16);
-        }
-        count
-    }
-
-    fn one_if(&self, bit: u16) -> usize
-        requires { bit < width WORDS }
-        ensures { result ≡ (if is_set self.now.words bit then 1 else 0) }
-    {
-        if has_bit(self.words[(bit / 64) as usize], bit % 64) {
-            1
-        } else {
-            0
-        }
+        self.words.iter().map(|word| ones_of(*word)).sum()
     }
 
     // The bit that a hash names.
     fn place(&self, hash: u16) -> u16
         ensures { result ≡ hash % width WORDS }
     {
-        (hash as usize % (64 * WORDS)) as u16
+        (usize::from(hash) % (64 * WORDS)) as u16
     }
 
+    #[tactic(auto, using(crate::proofs::PackedLaws::one_set))]
     fn mark(&mut self, hash: u16)
         ensures { Sets WORDS self.old.words (hash % width WORDS ∷ []) self.new.words }
     {
         let bit = self.place(hash);
-        let at = (bit / 64) as usize;
-        self.words[at] = with_bit(self.words[at], bit % 64);
+        self.words[usize::from(bit / 64)] |= 1 << (bit % 64);
     }
 
     fn marked(&self, hash: u16) -> bool
         ensures { result ≡ is_set self.now.words (hash % width WORDS) }
     {
         let bit = self.place(hash);
-        has_bit(self.words[(bit / 64) as usize], bit % 64)
+        (self.words[usize::from(bit / 64)] >> (bit % 64)) & 1 == 1
     }
 }
 
@@ -121,9 +85,10 @@ impl<const WORDS: usize> Signature for Register<WORDS> {
     ghost inserts = { λ s line t. Sets WORDS s.words (bits_of WORDS line) t.words };
 
     fn reset(&mut self) {
-        self.words = zeros();
+        *self = Register::new();
     }
 
+    // One after another: a loop over `bits` takes more instructions.
     fn insert(&mut self, line: u16) {
         self.mark(line);
         self.mark(line_hash::second(line));

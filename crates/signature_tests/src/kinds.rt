@@ -10,31 +10,16 @@ fn sets_just<const WORDS: usize>(register: &mut Register<WORDS>, line: u16, bits
     register.reset();
     register.insert(line);
     let named = register.bits(line);
-    for bit in bits {
-        if !named.contains(bit) {
-            return false;
-        }
-    }
-    register.ones() == bits.len()
+    bits.iter().all(|bit| named.contains(bit)) && register.ones() == bits.len()
 }
 
 // Of the lines below 65,535, just these hit.
 fn hits_just<S: Signature>(signature: &S, lines: &[u16]) -> bool {
-    for line in 0..u16::MAX {
-        if signature.hit(line) != lines.contains(&line) {
-            return false;
-        }
-    }
-    true
+    (0..u16::MAX).all(|line| signature.hit(line) == lines.contains(&line))
 }
 
 fn hits_everywhere<S: Signature>(signature: &S) -> bool {
-    for line in 0..u16::MAX {
-        if !signature.hit(line) {
-            return false;
-        }
-    }
-    true
+    (0..u16::MAX).all(|line| signature.hit(line))
 }
 
 #[test]
@@ -93,9 +78,8 @@ fn coarse_hits_on_groups_and_piles(rt: HostRuntime) {
     };
     coarse.insert(5);
     assert!(rt; hits_just(&coarse, &[4, 5, 6, 7]));
-    let first = SingleBit::new();
     let mut pile = Both {
-        first,
+        first: SingleBit::new(),
         second: coarse,
     };
     assert!(rt; hits_just(&pile, &[]));

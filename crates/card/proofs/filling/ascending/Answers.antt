@@ -1,16 +1,11 @@
-use Rattle.std.proofs.Common.{◌≡◌, filter, ap, ◌∙◌, arith}
-use Rattle.std.specs.List.{range_with_len}
+use Rattle.std.proofs.Common.{arith, rules, tests}
+use Rattle.std.proofs.lemmas.Iterator.{YieldsList-from_range, items_from_collect}
+use Rattle.std.proofs.lemmas.Iterator.Consumers.{YieldsList-from_filter}
 use Rattle.signature.specs.Members.{among}
 use Rattle.card.specs.Fills.{ascending_of}
-use Rattle.card.proofs.FillLaws.{keeps_more}
 use Rattle.card.proofs.filling.ascending.Goals as goal
-
-pub loop-number-preserved : goal.loop-number-preserved
-loop-number-preserved c =
-    keeps_more (λ n. among n c.args.numbers.now) c.loop-number.number _ _ c.is_among.result c.loop-number.invariant c.is_among.ensures c.in_ok-keep_if.ensures
 
 pub returns : goal.returns
 unfolding ascending_of
 returns c =
-    let all : c.loop-number.number ≡ c.args.end = omega arith in
-    c.loop-number.invariant ∙ ap (λ n. filter (λ k. among k c.args.numbers.now) (range_with_len 0 n)) all
+    items_from_collect c.collect.result c.collect.ensures.ran (YieldsList-from_filter _ (λ n. among n c.args.numbers.now) (YieldsList-from_range 0 c.args.end c.args.end (cc) (omega arith)) c.filter.ensures.closure (λ x b q k. search (rules, tests)))

@@ -1,2 +1,0 @@
-mod FillLaws
-mod ListingLaws
