@@ -3,7 +3,7 @@ use Rattle.std.proofs.Common.{◌≡◌, ℕ, ◌<◌, get_or, sym, ap, ◌∙�
 use Rattle.thread_record.specs.declared.plain.PlainRecord.{PlainRecord}
 use Rattle.write_buffer.specs.declared.entry.Entry.{Entry}
 use Rattle.board.specs.declared.parts.Board.{Board}
-use Rattle.board.specs.Changes.{EntryStored, ReadsTurned, RecordStored, WritesTurned}
+use Rattle.board.specs.Changes.{EntryStored, RecordStored}
 use Rattle.board.specs.States.{State, Only, SameShape}
 use Rattle.board.specs.Views.{SameParts, blank, part, thread_of, view}
 use Rattle.board.proofs.Progress.{same_fits}
@@ -29,20 +29,6 @@ module _ {R W : Type 0} (t : ℕ) (b b' : Board R W) (d : R) (e : W) where
     where
       same : (u : ℕ) → (u ≡ t → ⊥) → get_or b'.records.now u blank ≡ get_or b.records.now u blank
       same u ne = ap (λ xs. get_or xs u blank) s.records ∙ get_or-set_other b.records.now t u plain blank ne
-
-  pub reads_only : {becomes : R → R → Type 0} → ReadsTurned t becomes b b' → Only t (view b d e).words (view b d e) (view b' d e)
-  reads_only s = record {
-    others = λ u h ne. λ i. thread_of (get_or (s.records i) u blank) (part u (s.entries i)) (s.others d u ne i) (get_or (s.writes i) u e);
-    memory = λ a. ap (λ xs. get_or xs a 0) s.words;
-    shape = shape_of s.parts;
-  }
-
-  pub writes_only : {becomes : W → W → Type 0} → WritesTurned t becomes b b' → Only t (view b d e).words (view b d e) (view b' d e)
-  writes_only s = record {
-    others = λ u h ne. λ i. thread_of (get_or (s.records i) u blank) (part u (s.entries i)) (get_or (s.reads i) u d) (s.others e u ne i);
-    memory = λ a. ap (λ xs. get_or xs a 0) s.words;
-    shape = shape_of s.parts;
-  }
 
   pub entry_only : {place : ℕ} {entry : Entry} → EntryStored t place entry b b' → Only t (view b d e).words (view b d e) (view b' d e)
   entry_only s = record {

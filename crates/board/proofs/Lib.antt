@@ -9,4 +9,5 @@ mod Owns
 mod Progress
 mod Puts
 mod ReadBack
+mod Replaced
 mod Turning

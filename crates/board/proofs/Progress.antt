@@ -1,5 +1,5 @@
 -- How far a walk over the threads has come: those below u are done, and those from u on are as they were.
-use Rattle.std.proofs.Common.{◌≡◌, ℕ, ◌+◌, ◌<◌, ◌≤◌, Bool, None, Option, sym, refl, ◌∙◌, subst, arith, below_more}
+use Rattle.std.proofs.Common.{◌≡◌, ℕ, ◌+◌, ◌<◌, ◌≤◌, Bool, None, Option, sym, ◌∙◌, subst, arith, below_more}
 use Rattle.signature.specs.declared.Signature.{Ghosts}
 use Rattle.board.specs.declared.parts.Board.{Board}
 use Rattle.board.specs.Admissions.{Has}
@@ -15,14 +15,6 @@ module _ {R W : Type 0} (becomes : ℕ → Thread R W → Thread R W → Type 0)
     pub rest : (v : ℕ) → u ≤ v → v < s.threads → s'.thread v ≡ s.thread v
     pub memory : (a : ℕ) → s'.words a ≡ s.words a
     pub shape : SameShape s s'
-
-  pub progress_none : (s : State R W) → Progress 0 s s
-  progress_none s = record {
-    done = λ v h. absurd (omega arith);
-    rest = λ v _ _. refl;
-    memory = λ a. refl;
-    shape = record { fits = refl; size = refl; threads = refl };
-  }
 
   pub progress_more : (u : ℕ) (s s' s'' : State R W) → u < s.threads → Progress u s s' → Only u s'.words s' s'' → becomes u (s'.thread u) (s''.thread u) → Progress (u + 1) s s''
   progress_more u s s' s'' inside p only turned = record {

@@ -9,7 +9,7 @@ use Rattle.thread_record.specs.declared.phase.Phase.TheVariants.{Running}
 use Rattle.thread_record.specs.declared.record.Record.{Record}
 use Rattle.board.specs.Admissions.{Admitted}
 use Rattle.write_buffer.specs.Buffers.{fronted, lookup, place, placed}
-use Rattle.board.specs.Changes.{EntryStored, RecordStored, WritesTurned}
+use Rattle.board.specs.Changes.{EntryStored, RecordStored, RowTurned}
 use Rattle.thread_record.specs.Records.{Is, plain_of}
 use Rattle.board.specs.Refusals.{refusal, write}
 use Rattle.board.specs.Rules.{Rule, put, writes_word}
@@ -19,7 +19,8 @@ use Rattle.board.proofs.Owns.{own_buffer, own_count}
 use Rattle.write_buffer.proofs.Places.{placed_front, placed_long, place_full}
 use Rattle.board.proofs.Progress.{has_still}
 use Rattle.board.proofs.ReadBack.{few, length-front}
-use Rattle.board.proofs.Turning.{part_long, stored_thread, with_writes, writes_thread}
+use Rattle.board.proofs.Replaced.{with_write_row}
+use Rattle.board.proofs.Turning.{part_long, stored_thread, with_writes}
 
 -- no room is left, as the rules see it
 pub no_room : {R W : Type 0} (t a : ℕ) (before : Record) (b : Board R W) (admitted : Admitted t before b) (d : R) (e : W) →
@@ -29,7 +30,7 @@ no_room t a before b admitted d e =
     let most : length ((view b d e).thread t).buffer ≤ 32 = subst (λ n. n ≤ 32) (sym (own_count t before b admitted d e)) (few before.phase before.count before.counted) in
     ap (λ xs. eqb (place xs a) 32) (sym seen) ∙ place_full ((view b d e).thread t).buffer a most
 
-module _ {R W : Type 0} (r : Ghosts R) (w : Ghosts W) (t a v : ℕ) (before : Record) (b b₁ b₂ b₃ : Board R W) (admitted : Admitted t before b) where
+module _ {R W : Type 0} (r : Ghosts R) (w : Ghosts W) (t a v : ℕ) (before : Record) (b b₁ b₂ : Board R W) (row : List W) (admitted : Admitted t before b) where
   abbrev area : List Entry
   area = part t b.entries.now
 
@@ -50,7 +51,7 @@ module _ {R W : Type 0} (r : Ghosts R) (w : Ghosts W) (t a v : ℕ) (before : Re
         put_in.stored ∙ placed_front a v before.count area inside place_inside
 
     module _ (rec : Record) (is : Is Running (max before.count (place buffer a + 1)) 0 0 rec) (counted : RecordStored t (plain_of rec) b₁ b₂)
-        (told : WritesTurned t (λ s s'. Inserted w.has w.inserts s (line a) s') b₂ b₃) (d : R) (e : W)
+        (told : RowTurned t (λ s s'. Inserted w.has w.inserts s (line a) s') b₂.writes.now row) (d : R) (e : W)
       where
         count_is : max before.count (place buffer a + 1) ≡ length (placed buffer a v)
         count_is = ap (λ n. max n (place buffer a + 1)) (sym buffer_long) ∙ sym (placed_long a v buffer)
@@ -62,14 +63,13 @@ module _ {R W : Type 0} (r : Ghosts R) (w : Ghosts W) (t a v : ℕ) (before : Re
         same_writes = ap (λ xs. get_or xs t e) (counted.writes ∙ put_in.writes)
 
         thread_is :
-            (view b₃ d e).thread t ≡ stored Running (placed ((view b d e).thread t).buffer a v) 0 0 (fronted (placed ((view b d e).thread t).buffer a v) area) (get_or b.reads.now t d) (get_or b₃.writes.now t e)
+            (view (with_write_row b₂ row) d e).thread t ≡ stored Running (placed ((view b d e).thread t).buffer a v) 0 0 (fronted (placed ((view b d e).thread t).buffer a v) area) (get_or b.reads.now t d) (get_or row t e)
         thread_is =
-            writes_thread b₂ b₃ told d e
-            ∙ ap (λ x. with_writes x (get_or b₃.writes.now t e)) (stored_thread t b₁ (has_still b b₁ t put_in.parts admitted.has) b₂ rec Running (max before.count (place buffer a + 1)) 0 0 is counted d e)
-            ∙ (λ i. stored Running (front_is i) 0 0 (after i) (get_or (put_in.reads i) t d) (get_or b₃.writes.now t e))
-            ∙ (λ i. stored Running (placed (sym (own_buffer t before b admitted d e) i) a v) 0 0 (fronted (placed (sym (own_buffer t before b admitted d e) i) a v) area) (get_or b.reads.now t d) (get_or b₃.writes.now t e))
+            ap (λ x. with_writes x (get_or row t e)) (stored_thread t b₁ (has_still b b₁ t put_in.parts admitted.has) b₂ rec Running (max before.count (place buffer a + 1)) 0 0 is counted d e)
+            ∙ (λ i. stored Running (front_is i) 0 0 (after i) (get_or (put_in.reads i) t d) (get_or row t e))
+            ∙ (λ i. stored Running (placed (sym (own_buffer t before b admitted d e) i) a v) 0 0 (fronted (placed (sym (own_buffer t before b admitted d e) i) a v) area) (get_or b.reads.now t d) (get_or row t e))
 
-        pub put_rule : refusal r w (view b d e) (write t a v) ≡ None → Only t (view b d e).words (view b d e) (view b₃ d e) → Rule r w (view b d e) (put t a v) (view b₃ d e)
+        pub put_rule : refusal r w (view b d e) (write t a v) ≡ None → Only t (view b d e).words (view b d e) (view (with_write_row b₂ row) d e) → Rule r w (view b d e) (put t a v) (view (with_write_row b₂ row) d e)
         put_rule accepted only =
-            writes_word accepted only (get_or b₃.writes.now t e)
-            (subst (λ x. Inserted w.has w.inserts x (line a) (get_or b₃.writes.now t e)) same_writes (told.turned e)) thread_is
+            writes_word accepted only (get_or row t e)
+            (subst (λ x. Inserted w.has w.inserts x (line a) (get_or row t e)) same_writes (told.turned e)) thread_is

@@ -1,5 +1,7 @@
 -- A thread, read back from the record that was stored.
-use Rattle.std.proofs.Common.{◌≡◌, ℕ, ◌≤◌, min, List, length, take, sym, refl, ap, ◌∙◌, arith, length-take}
+use Rattle.std.proofs.Common.{◌≡◌, ℕ, ◌≤◌, List, length, take, sym, refl, ap, ◌∙◌, arith}
+use Rattle.std.proofs.Math.Nat.{min-eq_left}
+use Rattle.std.proofs.lemmas.List.{length-take-le}
 use Rattle.write_buffer.specs.declared.entry.Entry.{Entry}
 use Rattle.thread_record.specs.declared.phase.Phase.{Phase}
 use Rattle.thread_record.specs.declared.phase.Phase.TheVariants.{Idle, Running, Validating, Copying, Aborted}
@@ -17,9 +19,6 @@ phase_back Validating = refl
 phase_back Copying = refl
 phase_back Aborted = refl
 
-pub min_left : (n m : ℕ) → n ≤ m → min n m ≡ n
-min_left n m h = omega arith
-
 pub few : (p : Phase) (n : ℕ) → n ≤ count_limit p → n ≤ 32
 few Idle n h = omega arith
 few Running n h = h
@@ -28,7 +27,7 @@ few Copying n h = h
 few Aborted n h = omega arith
 
 pub length-front : (n : ℕ) (area : List Entry) → length area ≡ 32 → n ≤ 32 → length (take n area) ≡ n
-length-front n area long h = simp length-take (min_left n (length area) (omega arith))
+length-front n area long h = length-take-le n area (omega arith)
 
 module _ {R W : Type 0} (r : Record) (area : List Entry) (long : length area ≡ 32) (reads : R) (writes : W) where
   pub read_back : thread_of (plain_of r) area reads writes ≡ stored r.phase (take r.count area) r.cursor r.repeats area reads writes
@@ -48,11 +47,11 @@ module _ {R W : Type 0} (r : Record) (area : List Entry) (long : length area ≡
       counted = sym (length-front r.count area long (few r.phase r.count r.counted))
 
       count_back : count_as (phase_of (phase_number r.phase)) r.count ≡ r.count
-      count_back = ap (λ q. count_as q r.count) (phase_back r.phase) ∙ min_left _ _ r.counted
+      count_back = ap (λ q. count_as q r.count) (phase_back r.phase) ∙ min-eq_left r.counted
 
       cursor_back : cursor_as (phase_of (phase_number r.phase)) (count_as (phase_of (phase_number r.phase)) r.count) r.cursor ≡ r.cursor
       cursor_back =
-          ap (λ n. cursor_as (phase_of (phase_number r.phase)) n r.cursor) count_back ∙ ap (λ q. cursor_as q r.count r.cursor) (phase_back r.phase) ∙ min_left _ _ r.reached
+          ap (λ n. cursor_as (phase_of (phase_number r.phase)) n r.cursor) count_back ∙ ap (λ q. cursor_as q r.count r.cursor) (phase_back r.phase) ∙ min-eq_left r.reached
 
       repeats_back : repeats_as (phase_of (phase_number r.phase)) r.repeats ≡ r.repeats
-      repeats_back = ap (λ q. repeats_as q r.repeats) (phase_back r.phase) ∙ min_left _ _ r.repeated
+      repeats_back = ap (λ q. repeats_as q r.repeats) (phase_back r.phase) ∙ min-eq_left r.repeated

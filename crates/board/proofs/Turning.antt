@@ -4,9 +4,8 @@ use Rattle.board.specs.declared.parts.Board.{Board}
 use Rattle.thread_record.specs.declared.phase.Phase.{Phase}
 use Rattle.thread_record.specs.declared.record.Record.{Record}
 use Rattle.board.specs.Admissions.{Has}
-use Rattle.board.specs.Changes.{RecordStored, ReadsTurned, WritesTurned}
+use Rattle.board.specs.Changes.{RecordStored}
 use Rattle.thread_record.specs.Records.{Is, plain_of}
-use Rattle.board.specs.Rules.{with_reads}
 use Rattle.board.specs.States.{Thread, stored}
 use Rattle.board.specs.Views.{blank, part, right_lengths, thread_of, view}
 use Rattle.board.proofs.ReadBack.{read_back}
@@ -37,11 +36,3 @@ module _ {R W : Type 0} (t : ℕ) (b : Board R W) (has : Has t b) where
 -- a thread with another write signature, and all else as it was
 abbrev pub with_writes : {R W : Type 0} → Thread R W → W → Thread R W
 with_writes x q = record { plain = x.plain; area = x.area; phase = x.phase; buffer = x.buffer; cursor = x.cursor; repeats = x.repeats; reads = x.reads; writes = q }
-
-module _ {R W : Type 0} {t : ℕ} (b b' : Board R W) where
-  -- another read signature, and all else as it was
-  pub reads_thread : {becomes : R → R → Type 0} → ReadsTurned t becomes b b' → (d : R) (e : W) → (view b' d e).thread t ≡ with_reads ((view b d e).thread t) (get_or b'.reads.now t d)
-  reads_thread s d e = λ i. thread_of (get_or (s.records i) t blank) (part t (s.entries i)) (get_or b'.reads.now t d) (get_or (s.writes i) t e)
-
-  pub writes_thread : {becomes : W → W → Type 0} → WritesTurned t becomes b b' → (d : R) (e : W) → (view b' d e).thread t ≡ with_writes ((view b d e).thread t) (get_or b'.writes.now t e)
-  writes_thread s d e = λ i. thread_of (get_or (s.records i) t blank) (part t (s.entries i)) (get_or (s.reads i) t d) (get_or b'.writes.now t e)

@@ -1,5 +1,5 @@
 -- What a request for a line does. Assumes nothing.
-use Rattle.std.specs.Prelude.{◌≡◌, ℕ, ◌+◌, ◌<◌, Bool, true, false, cond, ◌&&◌, List, [], ◌∷◌, Some, None, Option}
+use Rattle.std.specs.Prelude.{◌≡◌, ℕ, ◌+◌, ◌<◌, Bool, true, false, ◌&&◌, [], None, Option, find}
 use Rattle.std.specs.List.{range_with_len}
 use Rattle.signature.specs.Meaning.{Emptied}
 use Rattle.signature.specs.declared.Signature.{Ghosts}
@@ -9,11 +9,6 @@ use Rattle.thread_record.specs.declared.phase.Phase.{Phase}
 use Rattle.thread_record.specs.declared.phase.Phase.TheVariants.{Aborted}
 use Rattle.conflict.specs.Conflicts.{effect, nacks_in, other}
 use Rattle.board.specs.States.{State, Thread, SameShape, stored}
-
--- the first of the numbers that passes a test
-abbrev pub first : (ℕ → Bool) → List ℕ → Option ℕ
-first test [] = None
-first test (n ∷ ns) = cond (test n) (Some n) (first test ns)
 
 -- a thread back at its first entry, with one repeat more
 abbrev pub rewound : {R W : Type 0} → Thread R W → Thread R W
@@ -27,7 +22,7 @@ module _ {R W : Type 0} (r : Ghosts R) (w : Ghosts W) where
 
   -- the lowest thread that nacks a request
   unfoldable pub nacker : State R W → Option ℕ → ℕ → Option ℕ
-  nacker s who l = first (nacks s who l) (range_with_len 0 s.threads)
+  nacker s who l = find (nacks s who l) (range_with_len 0 s.threads)
 
   -- y is x cleared: in the given phase, nothing counted, each signature reset once, the area as it was
   pub record Cleared (p : Phase) (x y : Thread R W) : Type 0 where

@@ -1,5 +1,5 @@
 -- A board as the rules speak of it. Assumes nothing.
-use Rattle.std.specs.Prelude.{◌≡◌, ℕ, ◌<◌, Bool, cond, List, length, ◌==◌, ◌≢◌}
+use Rattle.std.specs.Prelude.{◌≡◌, ℕ, ◌<◌, Bool, if◌then◌else◌, List, length, ◌==◌, ◌≢◌}
 use Rattle.write_buffer.specs.declared.entry.Entry.{Entry}
 use Rattle.thread_record.specs.declared.phase.Phase.{Phase}
 use Rattle.thread_record.specs.declared.plain.PlainRecord.{PlainRecord}
@@ -40,7 +40,7 @@ pub record State (R W : Type 0) : Type 0 where
 
 -- the words with the one at an address replaced
 abbrev pub at : (ℕ → ℕ) → ℕ → ℕ → ℕ → ℕ
-at words a v b = cond (b == a) v (words b)
+at words a v b = if b == a then v else words b
 
 module _ {R W : Type 0} where
   -- a board of the same size and with as many threads

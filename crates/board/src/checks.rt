@@ -10,10 +10,9 @@ ghost use Rattle.board.specs.Views.{fits_of, part, view};
 
 use crate::parts::Board;
 use refusal::Refusal;
-use refusal::rows::check_running;
+use refusal::rows::check_phase;
 use signature::Signature;
-use thread_record::Record;
-use thread_record::reading::record_of;
+use thread_record::{Phase, Record};
 use write_buffer::Entry;
 use write_buffer::scan::are_below;
 
@@ -24,10 +23,8 @@ impl<'w, 'r, 'e, 's, 'x, R: Signature, W: Signature> Board<'w, 'r, 'e, 's, 'x, R
         let words = self.words.len();
         let threads = self.records.len();
         words % 8 == 0
-            && 8 <= words
-            && words <= 65536
-            && 1 <= threads
-            && threads <= 16
+            && (8..=65536).contains(&words)
+            && (1..=16).contains(&threads)
             && self.entries.len() == 32 * threads
             && self.reads.len() == threads
             && self.writes.len() == threads
@@ -55,14 +52,14 @@ impl<'w, 'r, 'e, 's, 'x, R: Signature, W: Signature> Board<'w, 'r, 'e, 's, 'x, R
         }
     }
 
-    // The counted entries of a thread.
-    pub(crate) fn buffer(&self, t: usize, count: u32) -> &[Entry]
-        requires { (32 * t + 32 ≤ length self.now.entries.now) × (count ≤ 32) }
-        ensures holds { result.now ≡ take count (part t self.now.entries.now) }
-        ensures long { length result.now ≡ count }
+    // The counted entries of a thread with this record.
+    pub(crate) fn buffer(&self, t: usize, read: Record) -> &[Entry]
+        requires { 32 * t + 32 ≤ length self.now.entries.now }
+        ensures holds { result.now ≡ take read.count (part t self.now.entries.now) }
+        ensures long { length result.now ≡ read.count }
     {
         let area = &self.entries[32 * t..32 * t + 32];
-        &area[0..count as usize]
+        &area[..read.count as usize]
     }
 
     // The parts, the thread, and its counted entries.
@@ -72,11 +69,11 @@ impl<'w, 'r, 'e, 's, 'x, R: Signature, W: Signature> Board<'w, 'r, 'e, 's, 'x, R
     {
         self.check_parts()?;
         let t = thread as usize;
-        if t >= self.records.len() {
+        let Some(plain) = self.records.get(t) else {
             return Err(Refusal::NoThread(thread));
-        }
-        let record = record_of(self.records[t]);
-        if !are_below(self.buffer(t, record.count), self.words.len()) {
+        };
+        let record = Record::from(*plain);
+        if !are_below(self.buffer(t, record), self.words.len()) {
             return Err(Refusal::BadEntry(thread));
         }
         Ok(record)
@@ -98,7 +95,7 @@ impl<'w, 'r, 'e, 's, 'x, R: Signature, W: Signature> Board<'w, 'r, 'e, 's, 'x, R
     {
         let record = self.check_thread(thread)?;
         self.check_address(address)?;
-        check_running(record.phase, thread)?;
+        check_phase(record.phase, Phase::Running, thread)?;
         Ok(record)
     }
 }

@@ -7,6 +7,7 @@ mod opening;
 mod parts;
 mod plain_access;
 mod request;
+mod rows;
 mod step;
 mod threads;
 mod transaction;

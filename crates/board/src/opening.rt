@@ -4,6 +4,7 @@ ghost use Rattle.board.specs.Views.{Opens};
 use crate::parts::Board;
 use refusal::Refusal;
 use signature::Signature;
+use thread_record::Phase;
 
 impl<'w, 'r, 'e, 's, 'x, R: Signature, W: Signature> Board<'w, 'r, 'e, 's, 'x, R, W> {
     // Every thread idle and every signature reset; words and entries stay.
@@ -11,8 +12,9 @@ impl<'w, 'r, 'e, 's, 'x, R: Signature, W: Signature> Board<'w, 'r, 'e, 's, 'x, R
         ensures { Opens R.Signature W.Signature self.old result self.new }
     {
         self.check_parts()?;
+        // By number, since each turn changes the whole board.
         for t in 0..self.records.len() {
-            self.release(t);
+            self.clear(t, Phase::Idle);
         }
         Ok(())
     }

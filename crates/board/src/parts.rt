@@ -1,4 +1,4 @@
-// The parts of a board, as the caller lends them to each call.
+// The parts of a board, as the caller lends them to each call: side by side, and perhaps of wrong lengths.
 use thread_record::PlainRecord;
 use write_buffer::Entry;
 

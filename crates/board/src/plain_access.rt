@@ -4,8 +4,8 @@ ghost use Rattle.board.specs.Rules.{plain_got, plain_put};
 ghost use Rattle.board.specs.Views.{Called};
 
 use crate::parts::Board;
-use conflict::Access;
 use conflict::line::line_of;
+use conflict::{Access, Request};
 use refusal::Refusal;
 use signature::Signature;
 
@@ -14,9 +14,11 @@ impl<'w, 'r, 'e, 's, 'x, R: Signature, W: Signature> Board<'w, 'r, 'e, 's, 'x, R
         ensures { Called R.Signature W.Signature (plain_read address) (λ word. plain_got address word) self.old result self.new }
     {
         self.check_plain(address)?;
-        if let Err(by) = self.request(Access::Shared, None, line_of(address)) {
-            return Err(Refusal::Nacked(by));
-        }
+        self.ask(Request {
+            access: Access::Shared,
+            from: None,
+            line: line_of(address),
+        })?;
         Ok(self.word_at(address))
     }
 
@@ -24,9 +26,11 @@ impl<'w, 'r, 'e, 's, 'x, R: Signature, W: Signature> Board<'w, 'r, 'e, 's, 'x, R
         ensures { Called R.Signature W.Signature (plain_write address word) (λ _. plain_put address word) self.old result self.new }
     {
         self.check_plain(address)?;
-        if let Err(by) = self.request(Access::Exclusive, None, line_of(address)) {
-            return Err(Refusal::Nacked(by));
-        }
+        self.ask(Request {
+            access: Access::Exclusive,
+            from: None,
+            line: line_of(address),
+        })?;
         self.store_word(address, word);
         Ok(())
     }

@@ -7,79 +7,67 @@ ghost use Rattle.board.specs.Requests.{nacks, nacker};
 ghost use Rattle.board.specs.Views.{fits_of, view};
 
 use crate::parts::Board;
-use conflict::meeting::{does_nack, effect_on};
-use conflict::{Access, Effect};
+use conflict::{Effect, Request};
+use refusal::Nack;
 use signature::Signature;
-use thread_record::reading::record_of;
+use thread_record::{Phase, Record};
 
 impl<'w, 'r, 'e, 's, 'x, R: Signature, W: Signature> Board<'w, 'r, 'e, 's, 'x, R, W> {
-    fn nacks_at(&self, requester: Option<u32>, line: u16, u: u32) -> bool
+    fn nacks_at(&self, request: Request, u: u32) -> bool
         requires { Has u self.now }
-        ensures { (d : R) (e : W) → result ≡ nacks R.Signature W.Signature (view self.now d e) requester line u }
+        ensures { (d : R) (e : W) → result ≡ nacks R.Signature W.Signature (view self.now d e) request.from request.line u }
     {
         let t = u as usize;
         let writes = &*self.writes;
-        does_nack(requester, u, record_of(self.records[t]), &writes[t], line)
+        request.is_nacked_by(u, Record::from(self.records[t]), &writes[t])
     }
 
-    // The lowest thread that nacks a request.
-    pub(crate) fn find_nacker(&self, requester: Option<u32>, line: u16) -> Option<u32>
+    // The lowest thread that nacks a request. No `find`: its closure would have to repeat what `nacks_at` says.
+    fn find_nacker(&self, request: Request) -> Option<u32>
         requires { fits_of self.now ≡ true }
-        ensures { (d : R) (e : W) → result ≡ nacker R.Signature W.Signature (view self.now d e) requester line }
+        ensures { (d : R) (e : W) → result ≡ nacker R.Signature W.Signature (view self.now d e) request.from request.line }
     {
         for u in 0..self.records.len() as u32 {
-            if self.nacks_at(requester, line, u) {
+            if self.nacks_at(request, u) {
                 return Some(u);
             }
         }
         None
     }
 
-    fn effect_at(&self, access: Access, requester: Option<u32>, line: u16, u: u32) -> Effect
+    fn effect_at(&self, request: Request, u: u32) -> Effect
         requires { Has u self.now }
-        ensures { (d : R) (e : W) → result ≡ met R.Signature W.Signature (is_exclusive access) requester line u ((view self.now d e).thread u) }
+        ensures { (d : R) (e : W) → result ≡ met R.Signature W.Signature (is_exclusive request.access) request.from request.line u ((view self.now d e).thread u) }
     {
         let t = u as usize;
         let reads = &*self.reads;
         let writes = &*self.writes;
-        effect_on(
-            requester,
-            u,
-            record_of(self.records[t]),
-            &reads[t],
-            &writes[t],
-            access,
-            line,
-        )
+        request.effect_on(u, Record::from(self.records[t]), &reads[t], &writes[t])
     }
 
     // What a request that nobody nacked does to thread u.
-    fn affect(&mut self, access: Access, requester: Option<u32>, line: u16, u: u32)
+    fn affect(&mut self, request: Request, u: u32)
         requires { Has u self.old }
-        ensures { Turns u (Answers R.Signature W.Signature (is_exclusive access) requester line u) self.old self.new }
+        ensures { Turns u (Answers R.Signature W.Signature (is_exclusive request.access) request.from request.line u) self.old self.new }
     {
-        match self.effect_at(access, requester, line, u) {
+        match self.effect_at(request, u) {
             Effect::Stays => {}
             Effect::Repeats => self.rewind(u as usize),
-            Effect::Aborts => self.abort(u as usize),
+            Effect::Aborts => self.clear(u as usize, Phase::Aborted),
         }
     }
 
-    // A request for a line; the thread that nacked it, where one did.
-    pub(crate) fn request(
-        &mut self,
-        access: Access,
-        requester: Option<u32>,
-        line: u16,
-    ) -> Result<(), u32>
+    // Makes a request, unless a thread nacks it.
+    pub(crate) fn ask(&mut self, request: Request) -> Result<(), Nack>
         requires { fits_of self.old ≡ true }
-        ensures { Asked R.Signature W.Signature (is_exclusive access) requester line self.old result self.new }
+        ensures { Asked R.Signature W.Signature (is_exclusive request.access) request.from request.line self.old result self.new }
     {
-        if let Some(j) = self.find_nacker(requester, line) {
-            return Err(j);
+        if let Some(by) = self.find_nacker(request) {
+            return Err(Nack { by });
         }
+        // By number, since each turn changes the whole board.
         for u in 0..self.records.len() as u32 {
-            self.affect(access, requester, line, u);
+            self.affect(request, u);
         }
         Ok(())
     }

@@ -4,12 +4,13 @@ ghost use Rattle.board.specs.Rules.{began, got, put, committed, abandoned};
 ghost use Rattle.board.specs.Views.{Called};
 
 use crate::parts::Board;
-use conflict::Access;
+use crate::rows::insert_at;
 use conflict::line::line_of;
+use conflict::{Access, Request};
 use refusal::Refusal;
-use refusal::rows::{check_abandonable, check_idle, check_room, check_running};
+use refusal::rows::{check_abandonable, check_phase, check_room};
 use signature::Signature;
-use thread_record::Record;
+use thread_record::{Phase, Record};
 use write_buffer::Entry;
 use write_buffer::scan::{look_up, place_of};
 
@@ -18,8 +19,8 @@ impl<'w, 'r, 'e, 's, 'x, R: Signature, W: Signature> Board<'w, 'r, 'e, 's, 'x, R
         ensures { Called R.Signature W.Signature (begin thread) (λ _. began thread) self.old result self.new }
     {
         let record = self.check_thread(thread)?;
-        check_idle(record.phase, thread)?;
-        self.start(thread as usize);
+        check_phase(record.phase, Phase::Idle, thread)?;
+        self.clear(thread as usize, Phase::Running);
         Ok(())
     }
 
@@ -28,14 +29,16 @@ impl<'w, 'r, 'e, 's, 'x, R: Signature, W: Signature> Board<'w, 'r, 'e, 's, 'x, R
     {
         let record = self.check_access(thread, address)?;
         let t = thread as usize;
-        if let Some(word) = look_up(self.buffer(t, record.count), address) {
+        if let Some(word) = look_up(self.buffer(t, record), address) {
             return Ok(word);
         }
         let line = line_of(address);
-        if let Err(by) = self.request(Access::Shared, Some(thread), line) {
-            return Err(Refusal::Nacked(by));
-        }
-        self.insert_read(t, line);
+        self.ask(Request {
+            access: Access::Shared,
+            from: Some(thread),
+            line,
+        })?;
+        insert_at(self.reads, t, line);
         Ok(self.word_at(address))
     }
 
@@ -44,11 +47,11 @@ impl<'w, 'r, 'e, 's, 'x, R: Signature, W: Signature> Board<'w, 'r, 'e, 's, 'x, R
     {
         let before = self.check_access(thread, address)?;
         let t = thread as usize;
-        let place = place_of(self.buffer(t, before.count), address);
+        let place = place_of(self.buffer(t, before), address);
         check_room(place, thread)?;
         self.store_entry(t, place, Entry { address, word });
         self.store_record(t, Record::running(before.count.max(place as u32 + 1)));
-        self.insert_write(t, line_of(address));
+        insert_at(self.writes, t, line_of(address));
         Ok(())
     }
 
@@ -56,7 +59,7 @@ impl<'w, 'r, 'e, 's, 'x, R: Signature, W: Signature> Board<'w, 'r, 'e, 's, 'x, R
         ensures { Called R.Signature W.Signature (commit thread) (λ _. committed thread) self.old result self.new }
     {
         let before = self.check_thread(thread)?;
-        check_running(before.phase, thread)?;
+        check_phase(before.phase, Phase::Running, thread)?;
         self.store_record(thread as usize, before.committed());
         Ok(())
     }
@@ -66,7 +69,7 @@ impl<'w, 'r, 'e, 's, 'x, R: Signature, W: Signature> Board<'w, 'r, 'e, 's, 'x, R
     {
         let record = self.check_thread(thread)?;
         check_abandonable(record.phase)?;
-        self.release(thread as usize);
+        self.clear(thread as usize, Phase::Idle);
         Ok(())
     }
 }

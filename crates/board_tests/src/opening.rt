@@ -1,4 +1,5 @@
 use board::Board;
+use refusal::Refusal;
 use register::Register128;
 use std::alloc::{AllocError, Global};
 use std::test::Fail;
@@ -17,8 +18,8 @@ const ENTRY: Entry = Entry {
     word: 7,
 };
 
-// The refusal's number when a board of so many words and threads is opened, or 0.
-fn refusal_at(heap: Global, words: usize, threads: usize) -> Result<u32, AllocError> {
+// What a board of so many words and threads answers when it is opened.
+fn open(heap: Global, words: usize, threads: usize) -> Result<Result<(), Refusal>, AllocError> {
     let mut words = vec![in heap; 0; words]?;
     let mut records = vec![in heap; GARBAGE; threads]?;
     let mut entries = vec![in heap; ENTRY; threads.saturating_mul(32)]?;
@@ -31,26 +32,23 @@ fn refusal_at(heap: Global, words: usize, threads: usize) -> Result<u32, AllocEr
         reads: &mut reads,
         writes: &mut writes,
     };
-    match board.open() {
-        Ok(()) => Ok(0),
-        Err(refusal) => Ok(refusal.number()),
-    }
+    Ok(board.open())
 }
 
 #[test]
 fn a_board_has_8_to_65536_words(rt: HostRuntime) -> Result<(), Fail> {
-    assert_eq!(rt; refusal_at(rt.alloc(), 8, 1)?, 0);
-    assert_eq!(rt; refusal_at(rt.alloc(), 65536, 1)?, 0);
-    assert_eq!(rt; refusal_at(rt.alloc(), 65544, 1)?, 1);
-    assert_eq!(rt; refusal_at(rt.alloc(), 12, 1)?, 1);
-    assert_eq!(rt; refusal_at(rt.alloc(), 0, 1)?, 1);
+    assert_eq!(rt; open(rt.alloc(), 8, 1)?, Ok(()));
+    assert_eq!(rt; open(rt.alloc(), 65536, 1)?, Ok(()));
+    assert_eq!(rt; open(rt.alloc(), 65544, 1)?, Err(Refusal::WrongParts));
+    assert_eq!(rt; open(rt.alloc(), 12, 1)?, Err(Refusal::WrongParts));
+    assert_eq!(rt; open(rt.alloc(), 0, 1)?, Err(Refusal::WrongParts));
     Ok(())
 }
 
 #[test]
 fn a_board_has_1_to_16_threads(rt: HostRuntime) -> Result<(), Fail> {
-    assert_eq!(rt; refusal_at(rt.alloc(), 8, 16)?, 0);
-    assert_eq!(rt; refusal_at(rt.alloc(), 8, 17)?, 1);
-    assert_eq!(rt; refusal_at(rt.alloc(), 8, 0)?, 1);
+    assert_eq!(rt; open(rt.alloc(), 8, 16)?, Ok(()));
+    assert_eq!(rt; open(rt.alloc(), 8, 17)?, Err(Refusal::WrongParts));
+    assert_eq!(rt; open(rt.alloc(), 8, 0)?, Err(Refusal::WrongParts));
     Ok(())
 }

@@ -5,50 +5,9 @@ ghost use Rattle.conflict.specs.Conflicts.{again, effect, is_exclusive, nacks_in
 
 use crate::access::Access;
 use crate::effect::Effect;
+use crate::request::Request;
 use signature::Signature;
 use thread_record::{Phase, Record};
-
-// The requester may be nobody.
-fn is_other(requester: Option<u32>, u: u32) -> bool
-    ensures { result ≡ other requester u }
-{
-    match requester {
-        None => true,
-        Some(t) => u != t,
-    }
-}
-
-fn holds_back<W: Signature>(record: Record, writes: &W, line: u16) -> bool
-    ensures { result ≡ nacks_in «record».phase (W.Signature.has writes.now line) }
-{
-    match record.phase {
-        Phase::Copying => writes.hit(line),
-        Phase::Idle | Phase::Running | Phase::Validating | Phase::Aborted => false,
-    }
-}
-
-// Whether thread u nacks a request for the line.
-pub fn does_nack<W: Signature>(
-    requester: Option<u32>,
-    u: u32,
-    record: Record,
-    writes: &W,
-    line: u16,
-) -> bool
-    ensures { result ≡ (other requester u && nacks_in «record».phase (W.Signature.has writes.now line)) }
-{
-    is_other(requester, u) && holds_back(record, writes, line)
-}
-
-// Whether a request aborts a thread that has read the line.
-fn aborts_reader<R: Signature>(reads: &R, access: Access, line: u16) -> bool
-    ensures { result ≡ (is_exclusive access && R.Signature.has reads.now line) }
-{
-    match access {
-        Access::Shared => false,
-        Access::Exclusive => reads.hit(line),
-    }
-}
 
 // To repeat, unless there were four repeats already.
 pub fn one_more(repeats: u32) -> Effect
@@ -61,52 +20,52 @@ pub fn one_more(repeats: u32) -> Effect
     }
 }
 
-// What a request that nobody nacked does to another thread.
-fn effect_of<R: Signature, W: Signature>(
-    record: Record,
-    reads: &R,
-    writes: &W,
-    access: Access,
-    line: u16,
-) -> Effect
-    ensures { result ≡ effect (is_exclusive access) «record».phase «record».repeats (R.Signature.has reads.now line) (W.Signature.has writes.now line) }
-{
-    match record.phase {
-        Phase::Running => {
-            if aborts_reader(reads, access, line) {
-                Effect::Aborts
-            } else {
-                Effect::Stays
-            }
-        }
-        Phase::Validating => {
-            if aborts_reader(reads, access, line) {
-                Effect::Aborts
-            } else if writes.hit(line) {
-                one_more(record.repeats)
-            } else {
-                Effect::Stays
-            }
-        }
-        Phase::Idle | Phase::Copying | Phase::Aborted => Effect::Stays,
+impl Request {
+    fn meets(self, u: u32) -> bool
+        ensures { result ≡ other self.from u }
+    {
+        self.from != Some(u)
     }
-}
 
-// What a request that nobody nacked does to thread u, which may be the requester.
-pub fn effect_on<R: Signature, W: Signature>(
-    requester: Option<u32>,
-    u: u32,
-    record: Record,
-    reads: &R,
-    writes: &W,
-    access: Access,
-    line: u16,
-) -> Effect
-    ensures { result ≡ (if other requester u then effect (is_exclusive access) «record».phase «record».repeats (R.Signature.has reads.now line) (W.Signature.has writes.now line) else Stays) }
-{
-    if is_other(requester, u) {
-        effect_of(record, reads, writes, access, line)
-    } else {
-        Effect::Stays
+    // Whether thread u nacks the request.
+    pub fn is_nacked_by<W: Signature>(self, u: u32, record: Record, writes: &W) -> bool
+        ensures { result ≡ (other self.from u && nacks_in «record».phase (W.Signature.has writes.now self.line)) }
+    {
+        self.meets(u) && record.phase == Phase::Copying && writes.hit(self.line)
+    }
+
+    // Whether the request aborts a thread that has read the line.
+    fn aborts_reader<R: Signature>(self, reads: &R) -> bool
+        ensures { result ≡ (is_exclusive self.access && R.Signature.has reads.now self.line) }
+    {
+        self.access == Access::Exclusive && reads.hit(self.line)
+    }
+
+    // What the request does to another thread, when nobody nacked it.
+    fn effect_of<R: Signature, W: Signature>(self, record: Record, reads: &R, writes: &W) -> Effect
+        ensures { result ≡ effect (is_exclusive self.access) «record».phase «record».repeats (R.Signature.has reads.now self.line) (W.Signature.has writes.now self.line) }
+    {
+        match record.phase {
+            Phase::Running | Phase::Validating if self.aborts_reader(reads) => Effect::Aborts,
+            Phase::Validating if writes.hit(self.line) => one_more(record.repeats),
+            _ => Effect::Stays,
+        }
+    }
+
+    // What the request does to thread u, which may be the requester, when nobody nacked it.
+    pub fn effect_on<R: Signature, W: Signature>(
+        self,
+        u: u32,
+        record: Record,
+        reads: &R,
+        writes: &W,
+    ) -> Effect
+        ensures { result ≡ (if other self.from u then effect (is_exclusive self.access) «record».phase «record».repeats (R.Signature.has reads.now self.line) (W.Signature.has writes.now self.line) else Stays) }
+    {
+        if self.meets(u) {
+            self.effect_of(record, reads, writes)
+        } else {
+            Effect::Stays
+        }
     }
 }

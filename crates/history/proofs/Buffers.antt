@@ -1,5 +1,7 @@
 -- Lists of entries: buffers, whose addresses are distinct, what placing one word changes, and how far a cursor has come.
-use Rattle.std.proofs.Common.{◌≡◌, ℕ, zero, suc, ◌+◌, Bool, true, false, cond, eqb, ◌⊎◌, List, [], ◌∷◌, ◌++◌, length, get_or, take, drop, Some, None, Option, sym, refl, ap, ◌∙◌, subst, inl, inr, add-one, arith}
+use Rattle.std.proofs.Common.{◌≡◌, ℕ, zero, suc, ◌+◌, Bool, true, false, cond, ◌==◌, eqb, ◌⊎◌, List, [], ◌∷◌, ◌++◌, length, get_or, take, drop, Some, None, Option, sym, refl, ap, ◌∙◌, subst, inl, inr, add-one, arith}
+use Rattle.std.specs.List.{find}
+use Rattle.std.specs.Option.{option_map}
 use Rattle.std.proofs.lemmas.Bool.{eqb-true, eqb-false, eq-eqb, ne_eqb}
 use Rattle.write_buffer.specs.declared.entry.Entry.{Entry}
 use Rattle.history.specs.Serial.{fresh}
@@ -23,9 +25,22 @@ abbrev pub over : Option ℕ → ℕ → ℕ
 over None x = x
 over (Some v) x = v
 
+-- the first entry is asked, and then the others
+lookup-cons : (x : Entry) (xs : List Entry) (a : ℕ) → lookup (x ∷ xs) a ≡ cond (eqb x.address a) (Some x.word) (lookup xs a)
+lookup-cons x xs a = go (eqb x.address a)
+  where
+    go : (t : Bool) → option_map (λ (e : Entry). e.word) (cond t (Some x) (find (λ e. e.address == a) xs)) ≡ cond t (Some x.word) (lookup xs a)
+    go true = refl
+    go false = refl
+
 pub lookup-placed : (b : List Entry) (a v c : ℕ) → lookup (placed b a v) c ≡ cond (eqb a c) (Some v) (lookup b c)
-lookup-placed [] a v c = refl
-lookup-placed (e ∷ es) a v c = let ih = lookup-placed es a v c in grind (arith, ih)
+lookup-placed [] a v c = lookup-cons (record { address = a; word = v }) [] c
+lookup-placed (e ∷ es) a v c =
+    let ih = lookup-placed es a v c in
+    let own = lookup-cons e es c in
+    let kept = lookup-cons e (placed es a v) c in
+    let put = lookup-cons (record { address = a; word = v }) es c in
+    grind (arith, ih, own, kept, put)
 
 pub distinct_placed : (b : List Entry) (a v : ℕ) → Distinct b → Distinct (placed b a v)
 distinct_placed [] a v d = (refl, tt)
@@ -59,8 +74,8 @@ in_placed (x ∷ xs) a v e h = go (in_placed xs a v e) (eqb x.address a) h
 -- an entry's word is the one that is looked up
 pub lookup_in : (b : List Entry) → Distinct b → (e : Entry) → In e b → lookup b e.address ≡ Some e.word
 lookup_in [] d e n = absurd n
-lookup_in (x ∷ xs) d e (inl p) = rw (p, eq-eqb x.address x.address refl)
-lookup_in (x ∷ xs) d e (inr n) = let ih = lookup_in xs d.1 e n in go ih (eqb x.address e.address) refl
+lookup_in (x ∷ xs) d e (inl p) = lookup-cons x xs e.address ∙ rw (p, eq-eqb x.address x.address refl)
+lookup_in (x ∷ xs) d e (inr n) = let ih = lookup_in xs d.1 e n in lookup-cons x xs e.address ∙ go ih (eqb x.address e.address) refl
   where
     go : lookup xs e.address ≡ Some e.word → (t : Bool) → eqb x.address e.address ≡ t → cond t (Some x.word) (lookup xs e.address) ≡ Some e.word
     go ih true h = let d0 = d.0 in let q = eqb-true x.address e.address h in cc
@@ -69,7 +84,7 @@ lookup_in (x ∷ xs) d e (inr n) = let ih = lookup_in xs d.1 e n in go ih (eqb x
 -- what is looked up is an entry's
 pub in_lookup : (b : List Entry) (a v : ℕ) → lookup b a ≡ Some v → (e : Entry) × (In e b) × (e.address ≡ a)
 in_lookup [] a v h = let z : ◌≡◌ {A = ℕ} 0 1 = cc in absurd (omega arith)
-in_lookup (x ∷ xs) a v h = go (in_lookup xs a v) (eqb x.address a) refl h
+in_lookup (x ∷ xs) a v h = go (in_lookup xs a v) (eqb x.address a) refl (sym (lookup-cons x xs a) ∙ h)
   where
     go : (lookup xs a ≡ Some v → (e : Entry) × (In e xs) × (e.address ≡ a)) → (t : Bool) → eqb x.address a ≡ t → cond t (Some x.word) (lookup xs a) ≡ Some v →
         (e : Entry) × ((e ≡ x) ⊎ In e xs) × (e.address ≡ a)

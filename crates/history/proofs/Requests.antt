@@ -1,6 +1,6 @@
 -- What a request leaves of the other threads: less of each, and nothing of the line where they must not have it.
 use Rattle.std.proofs.Common.{◌≡◌, ℕ, zero, suc, ◌+◌, ◌<◌, ◌≤◌, Bool, true, false, cond, ◌&&◌, eqb, ◌⊎◌, take, Some, None, Option, sym, refl, ap, subst, inl, inr, arith}
-use Rattle.std.specs.List.{range_with_len}
+use Rattle.std.specs.List.{find, range_with_len}
 use Rattle.std.proofs.lemmas.Bool.{cases_Bool, cases_eq, both_ways, and_cases}
 use Rattle.signature.specs.declared.Signature.{Ghosts}
 use Rattle.conflict.specs.declared.effect.Effect.{Effect}
@@ -8,18 +8,18 @@ use Rattle.conflict.specs.declared.effect.Effect.TheVariants.{Stays, Repeats, Ab
 use Rattle.thread_record.specs.declared.phase.Phase.{Phase}
 use Rattle.thread_record.specs.declared.phase.Phase.TheVariants.{Idle, Running, Validating, Copying, Aborted}
 use Rattle.conflict.specs.Conflicts.{again, effect, nacks_in, other}
-use Rattle.board.specs.Requests.{Cleared, Leaves, Requested, first, nacker, nacks}
+use Rattle.board.specs.Requests.{Cleared, Leaves, Requested, nacker, nacks}
 use Rattle.board.specs.States.{State, Thread}
 use Rattle.history.proofs.Buffers.{In, in_take}
 use Rattle.history.proofs.Invariant.{Alive, Copies, Holds, Fetches, Seen, Part, Sound, Off, Apart, Weaker, same, sent_back, aborted, aborted_holds}
 
 -- where none of n numbers from a on is the first to pass a test, none passes it
-none_first : (test : ℕ → Bool) (a n u : ℕ) → first test (range_with_len a n) ≡ None → a ≤ u → u < a + n → test u ≡ false
+none_first : (test : ℕ → Bool) (a n u : ℕ) → find test (range_with_len a n) ≡ None → a ≤ u → u < a + n → test u ≡ false
 none_first test a zero u h le lt = absurd (omega arith)
 none_first test a (suc n) u h le lt = go (test a) refl h (none_first test (a + 1) n u)
   where
-    go : (b : Bool) → test a ≡ b → cond b (Some a) (first test (range_with_len (a + 1) n)) ≡ None →
-        (first test (range_with_len (a + 1) n) ≡ None → a + 1 ≤ u → u < a + 1 + n → test u ≡ false) → test u ≡ false
+    go : (b : Bool) → test a ≡ b → cond b (Some a) (find test (range_with_len (a + 1) n)) ≡ None →
+        (find test (range_with_len (a + 1) n) ≡ None → a + 1 ≤ u → u < a + 1 + n → test u ≡ false) → test u ≡ false
     go true e k more = let z : ◌≡◌ {A = ℕ} 0 1 = cc in absurd (omega arith)
     go false e k more = elim (cases_eq a u) [ inl q ↦ subst (λ z. test z ≡ false) q e | inr ne ↦ more k (omega arith) (omega arith) ]
 

@@ -1,5 +1,5 @@
 -- Runs of calls on a board, and what was answered and done in them. Newest first. Assumes nothing.
-use Rattle.std.specs.Prelude.{ℕ, ◌+◌, cond, not, ◌&&◌, List, [], ◌∷◌, ◌++◌, drop, ◌==◌}
+use Rattle.std.specs.Prelude.{ℕ, ◌+◌, if◌then◌else◌, not, ◌&&◌, List, [], ◌∷◌, ◌++◌, drop, ◌==◌}
 use Rattle.signature.specs.declared.Signature.{Ghosts}
 use Rattle.write_buffer.specs.declared.entry.Entry.{Entry}
 use Rattle.refusal.specs.declared.stepped.Stepped.TheVariants.{Passed, Copied}
@@ -21,7 +21,7 @@ told (committed t) = accepted (commit t)
 told (abandoned t) = accepted (abandon t)
 told (got t a v) = accepted (read t a)
 told (put t a v) = accepted (write t a v)
-told (stepped t c) = cond (is c Passed) (passed t) (accepted (step t))
+told (stepped t c) = if is c Passed then passed t else accepted (step t)
 told (plain_got a v) = accepted (plain_read a)
 told (plain_put a v) = accepted (plain_write a v)
 told (refused c f) = refusal c
@@ -34,10 +34,10 @@ fed (e ∷ es) = told e ∷ fed es
 -- what the accepted reads of thread t were answered, since its begin
 abbrev pub heard : List Event → ℕ → List ℕ
 heard [] t = []
-heard (began u ∷ es) t = cond (u == t) [] (heard es t)
+heard (began u ∷ es) t = if u == t then [] else heard es t
 heard (committed u ∷ es) t = heard es t
-heard (abandoned u ∷ es) t = cond (u == t) [] (heard es t)
-heard (got u a v ∷ es) t = cond (u == t) (heard es t ++ (v ∷ [])) (heard es t)
+heard (abandoned u ∷ es) t = if u == t then [] else heard es t
+heard (got u a v ∷ es) t = if u == t then heard es t ++ (v ∷ []) else heard es t
 heard (put u a v ∷ es) t = heard es t
 heard (stepped u c ∷ es) t = heard es t
 heard (plain_got a v ∷ es) t = heard es t
@@ -47,10 +47,10 @@ heard (refused c f ∷ es) t = heard es t
 -- what thread t has read from memory since its begin, that is at addresses that it had not yet written: each address with its answer
 abbrev pub loads : List Event → ℕ → List Entry
 loads [] t = []
-loads (began u ∷ es) t = cond (u == t) [] (loads es t)
+loads (began u ∷ es) t = if u == t then [] else loads es t
 loads (committed u ∷ es) t = loads es t
-loads (abandoned u ∷ es) t = cond (u == t) [] (loads es t)
-loads (got u a v ∷ es) t = cond (u == t && not (written (list (fed es) t) a)) (loads es t ++ (record { address = a; word = v } ∷ [])) (loads es t)
+loads (abandoned u ∷ es) t = if u == t then [] else loads es t
+loads (got u a v ∷ es) t = if u == t && not (written (list (fed es) t) a) then loads es t ++ (record { address = a; word = v } ∷ []) else loads es t
 loads (put u a v ∷ es) t = loads es t
 loads (stepped u c ∷ es) t = loads es t
 loads (plain_got a v ∷ es) t = loads es t
@@ -66,7 +66,7 @@ to_copy (abandoned u ∷ es) t = to_copy es t
 to_copy (got u a v ∷ es) t = to_copy es t
 to_copy (put u a v ∷ es) t = to_copy es t
 to_copy (stepped u c ∷ es) t =
-    cond (u == t) (cond (is c Passed) (targets (list (fed es) t)) (cond (is c Copied) (drop 1 (to_copy es t)) (to_copy es t))) (to_copy es t)
+    if u == t then (if is c Passed then targets (list (fed es) t) else if is c Copied then drop 1 (to_copy es t) else to_copy es t) else to_copy es t
 to_copy (plain_got a v ∷ es) t = to_copy es t
 to_copy (plain_put a v ∷ es) t = to_copy es t
 to_copy (refused c f ∷ es) t = to_copy es t
@@ -79,7 +79,7 @@ steps (committed u ∷ es) t = steps es t
 steps (abandoned u ∷ es) t = steps es t
 steps (got u a v ∷ es) t = steps es t
 steps (put u a v ∷ es) t = steps es t
-steps (stepped u c ∷ es) t = cond (u == t) (cond (is c Passed) 0 (steps es t + 1)) (steps es t)
+steps (stepped u c ∷ es) t = if u == t then (if is c Passed then 0 else steps es t + 1) else steps es t
 steps (plain_got a v ∷ es) t = steps es t
 steps (plain_put a v ∷ es) t = steps es t
 steps (refused c f ∷ es) t = steps es t

@@ -1,5 +1,5 @@
 -- The serial run: transactions one after the other, in the order in which they pass, with the plain accesses between them. Newest first. Assumes nothing.
-use Rattle.std.specs.Prelude.{ℕ, Bool, true, false, cond, List, [], ◌∷◌, ◌++◌, ◌==◌}
+use Rattle.std.specs.Prelude.{ℕ, Bool, true, false, if◌then◌else◌, List, [], ◌∷◌, ◌++◌, ◌==◌}
 use Rattle.board.specs.Refusals.{Call, begin, commit, step, abandon, read, write, plain_read, plain_write}
 use Rattle.board.specs.States.{at}
 
@@ -27,12 +27,12 @@ answers words (set a v ∷ ops) = answers (at words a v) ops
 
 -- what an accepted call makes of the list of thread t: begin and abandon empty it, a read or a write joins its end
 abbrev pub joined : Call → ℕ → List Op → List Op
-joined (begin u) t ops = cond (u == t) [] ops
+joined (begin u) t ops = if u == t then [] else ops
 joined (commit u) t ops = ops
 joined (step u) t ops = ops
-joined (abandon u) t ops = cond (u == t) [] ops
-joined (read u a) t ops = cond (u == t) (ops ++ (get a ∷ [])) ops
-joined (write u a v) t ops = cond (u == t) (ops ++ (set a v ∷ [])) ops
+joined (abandon u) t ops = if u == t then [] else ops
+joined (read u a) t ops = if u == t then ops ++ (get a ∷ []) else ops
+joined (write u a v) t ops = if u == t then ops ++ (set a v ∷ []) else ops
 joined (plain_read a) t ops = ops
 joined (plain_write a v) t ops = ops
 
@@ -65,12 +65,12 @@ serial_words words (passed t ∷ fs) = run (serial_words words fs) (list fs t)
 abbrev pub written : List Op → ℕ → Bool
 written [] a = false
 written (get b ∷ ops) a = written ops a
-written (set b v ∷ ops) a = cond (b == a) true (written ops a)
+written (set b v ∷ ops) a = if b == a then true else written ops a
 
 -- the addresses with one more at the end, unless it is there
 abbrev pub fresh : ℕ → List ℕ → List ℕ
 fresh a [] = a ∷ []
-fresh a (b ∷ bs) = cond (b == a) (b ∷ bs) (b ∷ fresh a bs)
+fresh a (b ∷ bs) = if b == a then b ∷ bs else b ∷ fresh a bs
 
 -- the addresses of a list's writes, after those given, each once and in order of first write
 abbrev pub targets_from : List ℕ → List Op → List ℕ

@@ -1,5 +1,5 @@
 -- The rows of the refusal table. Assumes nothing.
-use Rattle.std.specs.Prelude.{ℕ, Bool, cond, not, ◌||◌, List, [], ◌∷◌, Some, None, Ok, Err, Option, Result}
+use Rattle.std.specs.Prelude.{ℕ, Bool, if◌then◌else◌, not, ◌||◌, List, [], ◌∷◌, Some, None, Ok, Err, Option, Result}
 use Rattle.thread_record.specs.declared.phase.Phase.{Phase}
 use Rattle.thread_record.specs.Phases.{phase_number, is_aborted}
 use Rattle.refusal.specs.declared.refusal.Refusal.{Refusal}
@@ -7,7 +7,7 @@ use Rattle.refusal.specs.Cases.{Case, case, refusal_case}
 
 -- a row: refused where the condition holds; where it does not, the rows after it decide
 abbrev pub row : Bool → ℕ → List ℕ → Option Case → Option Case
-row condition number values after = cond condition (Some (case number values)) after
+row condition number values after = if condition then Some (case number values) else after
 
 -- what some rows decided, before those after them: a refusal stands
 abbrev pub decided : {X : Type 0} → Result X Refusal → Option Case → Option Case

@@ -17,6 +17,7 @@ pub enum Refusal {
 }
 
 impl Refusal {
+    // The number that users know it by: a variant with a value in it carries none.
     pub fn number(self) -> u32
         ensures { result ≡ (refusal_case self).number }
     {

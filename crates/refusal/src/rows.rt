@@ -1,31 +1,21 @@
 // The rows of the table on a thread's phase, and on the room in its buffer.
 ghost use Rattle.std.specs.Prelude.{◌≡◌, [], ◌∷◌, Option, OnOk, ◌==◌, ◌≢◌};
-ghost use Rattle.thread_record.specs.declared.phase.Phase.TheVariants.{Running};
-ghost use Rattle.thread_record.specs.Phases.{is_idle, is_running, is_live};
+ghost use Rattle.thread_record.specs.Phases.{same_phase, is_live};
 ghost use Rattle.refusal.specs.Cases.{Case};
 ghost use Rattle.refusal.specs.Rows.{decided, row, phase_row, phase_rows};
 
 use crate::refusal::Refusal;
 use thread_record::Phase;
 
-pub fn check_idle(phase: Phase, thread: u32) -> Result<(), Refusal>
-    ensures { (after : Option Case) → decided result after ≡ phase_rows is_idle phase thread after }
+// For a call that needs a thread in this phase.
+pub fn check_phase(phase: Phase, wanted: Phase, thread: u32) -> Result<(), Refusal>
+    ensures decides { (after : Option Case) → decided result after ≡ phase_rows (same_phase wanted) phase thread after }
+    ensures accepts { OnOk result (phase ≡ wanted) }
 {
     match phase {
-        Phase::Idle => Ok(()),
         Phase::Aborted => Err(Refusal::Aborted(thread)),
-        Phase::Running | Phase::Validating | Phase::Copying => Err(Refusal::WrongPhase(phase)),
-    }
-}
-
-pub fn check_running(phase: Phase, thread: u32) -> Result<(), Refusal>
-    ensures decides { (after : Option Case) → decided result after ≡ phase_rows is_running phase thread after }
-    ensures accepts { OnOk result (phase ≡ Running) }
-{
-    match phase {
-        Phase::Running => Ok(()),
-        Phase::Aborted => Err(Refusal::Aborted(thread)),
-        Phase::Idle | Phase::Validating | Phase::Copying => Err(Refusal::WrongPhase(phase)),
+        _ if phase == wanted => Ok(()),
+        _ => Err(Refusal::WrongPhase(phase)),
     }
 }
 

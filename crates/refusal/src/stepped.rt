@@ -1,6 +1,6 @@
 // What an accepted step did.
 
-#[derive(Clone, Copy, PartialEq, Eq)]
+#[derive(Clone, Copy, PartialEq, Eq, Debug)]
 pub enum Stepped {
     Fetched,
     Repeated(u32),

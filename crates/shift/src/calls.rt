@@ -16,40 +16,19 @@ pub enum Call {
     PlainWrite(u32, u32),
 }
 
+// What an accepted call gives.
 #[derive(Clone, Copy)]
-pub enum Answer {
+pub enum Reply {
     Done,
     Word(u32),
     Step(Stepped),
-    No(Refusal),
 }
 
-impl From<Result<(), Refusal>> for Answer {
-    fn from(res: Result<(), Refusal>) -> Answer {
-        match res {
-            Ok(()) => Answer::Done,
-            Err(refusal) => Answer::No(refusal),
-        }
-    }
-}
+pub type Answer = Result<Reply, Refusal>;
 
-impl From<Result<u32, Refusal>> for Answer {
-    fn from(res: Result<u32, Refusal>) -> Answer {
-        match res {
-            Ok(word) => Answer::Word(word),
-            Err(refusal) => Answer::No(refusal),
-        }
-    }
-}
-
-impl From<Result<Stepped, Refusal>> for Answer {
-    fn from(res: Result<Stepped, Refusal>) -> Answer {
-        match res {
-            Ok(stepped) => Answer::Step(stepped),
-            Err(refusal) => Answer::No(refusal),
-        }
-    }
-}
+// An answer as it is printed, since a `Result` has no `Display`.
+#[derive(Clone, Copy)]
+pub struct Shown(pub Answer);
 
 impl Call {
     pub(crate) fn on<R: Signature, W: Signature>(
@@ -57,14 +36,14 @@ impl Call {
         board: &mut Board<'_, '_, '_, '_, '_, R, W>,
     ) -> Answer {
         match self {
-            Call::Begin(t) => board.begin(t).into(),
-            Call::Read(t, a) => board.read(t, a).into(),
-            Call::Write(t, a, v) => board.write(t, a, v).into(),
-            Call::Commit(t) => board.commit(t).into(),
-            Call::Step(t) => board.step(t).into(),
-            Call::Abandon(t) => board.abandon(t).into(),
-            Call::PlainRead(a) => board.plain_read(a).into(),
-            Call::PlainWrite(a, v) => board.plain_write(a, v).into(),
+            Call::Begin(t) => board.begin(t).map(|()| Reply::Done),
+            Call::Read(t, a) => board.read(t, a).map(Reply::Word),
+            Call::Write(t, a, v) => board.write(t, a, v).map(|()| Reply::Done),
+            Call::Commit(t) => board.commit(t).map(|()| Reply::Done),
+            Call::Step(t) => board.step(t).map(Reply::Step),
+            Call::Abandon(t) => board.abandon(t).map(|()| Reply::Done),
+            Call::PlainRead(a) => board.plain_read(a).map(Reply::Word),
+            Call::PlainWrite(a, v) => board.plain_write(a, v).map(|()| Reply::Done),
         }
     }
 }
@@ -82,21 +61,18 @@ impl fmt::Display for Call {
     }
 }
 
-impl fmt::Display for Answer {
+impl fmt::Display for Shown {
     fn fmt<F: fmt::Write>(&self, f: &mut fmt::Formatter<F>) -> fmt::Result {
-        match *self {
-            Answer::Done => f.write_str("ok"),
-            Answer::Word(v) => write!(f, "= {v}"),
-            Answer::Step(Stepped::Repeated(j)) => write!(f, "repeated {j}"),
-            Answer::Step(Stepped::Fetched) => f.write_str("fetched"),
-            Answer::Step(Stepped::Lost) => f.write_str("lost"),
-            Answer::Step(Stepped::Passed) => f.write_str("passed"),
-            Answer::Step(Stepped::Copied) => f.write_str("copied"),
-            Answer::Step(Stepped::Ended) => f.write_str("ended"),
-            Answer::No(refusal) => {
-                let k = refusal.number();
-                write!(f, "no {k}")
-            }
+        match self.0 {
+            Ok(Reply::Done) => f.write_str("ok"),
+            Ok(Reply::Word(v)) => write!(f, "= {v}"),
+            Ok(Reply::Step(Stepped::Repeated(j))) => write!(f, "repeated {j}"),
+            Ok(Reply::Step(Stepped::Fetched)) => f.write_str("fetched"),
+            Ok(Reply::Step(Stepped::Lost)) => f.write_str("lost"),
+            Ok(Reply::Step(Stepped::Passed)) => f.write_str("passed"),
+            Ok(Reply::Step(Stepped::Copied)) => f.write_str("copied"),
+            Ok(Reply::Step(Stepped::Ended)) => f.write_str("ended"),
+            Err(refusal) => write!(f, "no {}", refusal.number()),
         }
     }
 }

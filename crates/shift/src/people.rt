@@ -1,5 +1,5 @@
 // Who takes turns on the board: each says what to call next, and hears the answer.
-use crate::calls::{Answer, Call};
+use crate::calls::{Answer, Call, Reply};
 use refusal::{Refusal, Stepped};
 
 // Pages that wait to be recognised, and pages that a worker has in work.
@@ -11,159 +11,100 @@ pub const IN_WORK: u32 = 8;
 const MARK: u32 = 1;
 
 pub trait Caller {
-    fn name(&self) -> &'static str;
-
+    // None once there is nothing left to call.
     fn next_call(&self) -> Option<Call>;
 
-    fn hear(&mut self, answer: Answer);
-}
-
-#[derive(Clone, Copy)]
-enum Taking {
-    Begin,
-    ReadWaiting,
-    ReadInWork,
-    WriteWaiting,
-    WriteInWork,
-    Commit,
-    Step,
-    Abandon,
-    Ended,
+    fn hear(&mut self, call: Call, answer: Answer);
 }
 
 // A worker that takes pages from waiting to in work by one transaction.
 #[derive(Drop)]
 pub struct Worker {
-    name: &'static str,
-    thread: u32,
     pages: u32,
     waiting: u32,
     in_work: u32,
-    taking: Taking,
+    next: Option<Call>,
 }
 
 impl Worker {
-    pub(crate) fn new(name: &'static str, thread: u32, pages: u32) -> Worker {
+    pub(crate) fn new(thread: u32, pages: u32) -> Worker {
         Worker {
-            name,
-            thread,
             pages,
             waiting: 0,
             in_work: 0,
-            taking: Taking::Begin,
+            next: Some(Call::Begin(thread)),
         }
     }
 
-    // The call was accepted.
-    fn go_on(&mut self, answer: Answer) {
-        self.taking = match (self.taking, answer) {
-            (Taking::Begin, _) => Taking::ReadWaiting,
-            (Taking::ReadWaiting, Answer::Word(pages)) => {
+    // What to call after a call that was accepted; a step is made again until one ends.
+    fn after(&mut self, call: Call, reply: Reply) -> Option<Call> {
+        match (call, reply) {
+            (Call::Begin(t), _) => Some(Call::Read(t, WAITING)),
+            (Call::Read(t, WAITING), Reply::Word(pages)) => {
                 self.waiting = pages;
-                Taking::ReadInWork
+                Some(Call::Read(t, IN_WORK))
             }
-            (Taking::ReadInWork, Answer::Word(pages)) => {
+            (Call::Read(t, _), Reply::Word(pages)) => {
                 self.in_work = pages;
-                Taking::WriteWaiting
+                Some(Call::Write(t, WAITING, self.waiting.saturating_sub(self.pages)))
             }
-            (Taking::WriteWaiting, _) => Taking::WriteInWork,
-            (Taking::WriteInWork, _) => Taking::Commit,
-            (Taking::Commit, _) => Taking::Step,
-            (Taking::Step, Answer::Step(Stepped::Ended)) => Taking::Ended,
-            (Taking::Abandon, _) => Taking::Begin,
-            (taking, _) => taking,
-        };
+            (Call::Write(t, WAITING, _), _) => {
+                Some(Call::Write(t, IN_WORK, self.in_work.saturating_add(self.pages)))
+            }
+            (Call::Write(t, ..), _) => Some(Call::Commit(t)),
+            (Call::Commit(t), _) => Some(Call::Step(t)),
+            (Call::Step(t), Reply::Step(Stepped::Lost)) => Some(Call::Abandon(t)),
+            (Call::Step(_), Reply::Step(Stepped::Ended)) => None,
+            (Call::Abandon(t), _) => Some(Call::Begin(t)),
+            _ => Some(call),
+        }
     }
 }
 
 impl Caller for Worker {
-    fn name(&self) -> &'static str {
-        self.name
-    }
-
     fn next_call(&self) -> Option<Call> {
-        let t = self.thread;
-        match self.taking {
-            Taking::Begin => Some(Call::Begin(t)),
-            Taking::ReadWaiting => Some(Call::Read(t, WAITING)),
-            Taking::ReadInWork => Some(Call::Read(t, IN_WORK)),
-            Taking::WriteWaiting => {
-                Some(Call::Write(t, WAITING, self.waiting.saturating_sub(self.pages)))
-            }
-            Taking::WriteInWork => {
-                Some(Call::Write(t, IN_WORK, self.in_work.saturating_add(self.pages)))
-            }
-            Taking::Commit => Some(Call::Commit(t)),
-            Taking::Step => Some(Call::Step(t)),
-            Taking::Abandon => Some(Call::Abandon(t)),
-            Taking::Ended => None,
-        }
+        self.next
     }
 
     // An aborted transaction is abandoned and begun again; any other refused call is made again.
-    fn hear(&mut self, answer: Answer) {
-        match answer {
-            Answer::No(Refusal::Aborted(_)) | Answer::Step(Stepped::Lost) => {
-                self.taking = Taking::Abandon;
-            }
-            Answer::No(_) => {}
-            _ => self.go_on(answer),
-        }
+    fn hear(&mut self, call: Call, answer: Answer) {
+        self.next = match answer {
+            Ok(reply) => self.after(call, reply),
+            Err(Refusal::Aborted(t)) => Some(Call::Abandon(t)),
+            Err(_) => Some(call),
+        };
     }
-}
-
-#[derive(Clone, Copy)]
-enum Scanning {
-    ReadWaiting,
-    WriteWaiting,
-    WriteMark,
-    Ended,
 }
 
 // A clerk that counts the pages just scanned, and then says that the morning's scans are in.
 #[derive(Drop)]
 pub struct Clerk {
     pages: u32,
-    waiting: u32,
-    scanning: Scanning,
+    next: Option<Call>,
 }
 
 impl Clerk {
     pub(crate) fn new(pages: u32) -> Clerk {
         Clerk {
             pages,
-            waiting: 0,
-            scanning: Scanning::ReadWaiting,
+            next: Some(Call::PlainRead(WAITING)),
         }
     }
 }
 
 impl Caller for Clerk {
-    fn name(&self) -> &'static str {
-        "scan clerk"
-    }
-
     fn next_call(&self) -> Option<Call> {
-        match self.scanning {
-            Scanning::ReadWaiting => Some(Call::PlainRead(WAITING)),
-            Scanning::WriteWaiting => {
-                Some(Call::PlainWrite(WAITING, self.waiting.saturating_add(self.pages)))
-            }
-            Scanning::WriteMark => Some(Call::PlainWrite(MARK, 1)),
-            Scanning::Ended => None,
-        }
+        self.next
     }
 
-    fn hear(&mut self, answer: Answer) {
-        self.scanning = match (self.scanning, answer) {
-            (scanning, Answer::No(_)) => scanning,
-            (Scanning::ReadWaiting, Answer::Word(pages)) => {
-                self.waiting = pages;
-                Scanning::WriteWaiting
+    fn hear(&mut self, call: Call, answer: Answer) {
+        self.next = match (call, answer) {
+            (Call::PlainRead(_), Ok(Reply::Word(waiting))) => {
+                Some(Call::PlainWrite(WAITING, waiting.saturating_add(self.pages)))
             }
-            (Scanning::WriteWaiting, _) => Scanning::WriteMark,
-            (Scanning::WriteMark, _) => Scanning::Ended,
-            (scanning, _) => scanning,
+            (Call::PlainWrite(WAITING, _), Ok(_)) => Some(Call::PlainWrite(MARK, 1)),
+            (Call::PlainWrite(..), Ok(_)) => None,
+            _ => Some(call),
         };
     }
 }

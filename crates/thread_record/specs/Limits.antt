@@ -1,11 +1,11 @@
 -- How a record is read from plain numbers. Assumes nothing.
-use Rattle.std.specs.Prelude.{cond, ℕ, min, ◌==◌}
+use Rattle.std.specs.Prelude.{if◌then◌else◌, ℕ, min, ◌==◌}
 use Rattle.thread_record.specs.declared.phase.Phase.{Phase}
 use Rattle.thread_record.specs.declared.phase.Phase.TheVariants.{Idle, Running, Validating, Copying, Aborted}
 
 -- the phase that a number stands for; a number above 4 is read as 4
 abbrev pub phase_of : ℕ → Phase
-phase_of n = cond (n == 0) Idle (cond (n == 1) Running (cond (n == 2) Validating (cond (n == 3) Copying Aborted)))
+phase_of n = if n == 0 then Idle else if n == 1 then Running else if n == 2 then Validating else if n == 3 then Copying else Aborted
 
 -- the most entries that a thread can count in a phase
 abbrev pub count_limit : Phase → ℕ

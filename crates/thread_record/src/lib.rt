@@ -3,7 +3,7 @@
 
 mod phase;
 mod plain;
-pub mod reading;
+mod reading;
 mod record;
 mod transitions;
 

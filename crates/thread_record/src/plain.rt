@@ -1,6 +1,6 @@
-// A thread's record as the row holds it: any four numbers.
+// A thread's record as the row holds it: any four numbers, the phase's too, as the rules want them.
 
-#[derive(Clone, Copy, PartialEq, Eq)]
+#[derive(Clone, Copy, PartialEq, Eq, Default)]
 pub struct PlainRecord {
     pub phase: u32,
     pub count: u32,

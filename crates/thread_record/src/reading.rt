@@ -1,23 +1,11 @@
 // Reads a record from plain numbers, whatever they are.
 ghost use Rattle.std.specs.Prelude.{◌≡◌};
-ghost use Rattle.thread_record.specs.Limits.{phase_of, count_limit, cursor_limit, repeats_limit};
+ghost use Rattle.thread_record.specs.Limits.{count_limit, cursor_limit, repeats_limit};
 ghost use Rattle.thread_record.specs.Records.{ReadFrom, plain_of};
 
 use crate::phase::Phase;
 use crate::plain::PlainRecord;
 use crate::record::Record;
-
-fn phase_from(number: u32) -> Phase
-    ensures { result ≡ phase_of number }
-{
-    match number {
-        0 => Phase::Idle,
-        1 => Phase::Running,
-        2 => Phase::Validating,
-        3 => Phase::Copying,
-        _ => Phase::Aborted,
-    }
-}
 
 fn most_entries(phase: Phase) -> u32
     ensures { result ≡ count_limit phase }
@@ -47,29 +35,33 @@ fn most_repeats(phase: Phase) -> u32
 }
 
 // A number above its limit is read as that limit.
-pub fn record_of(plain: PlainRecord) -> Record
-    ensures { ReadFrom plain result }
-{
-    let phase = phase_from(plain.phase);
-    let count = plain.count.min(most_entries(phase));
-    let cursor = plain.cursor.min(furthest_cursor(phase, count));
-    let repeats = plain.repeats.min(most_repeats(phase));
-    Record {
-        phase,
-        count,
-        cursor,
-        repeats,
+impl From<PlainRecord> for Record {
+    ghost from_gives = { ReadFrom };
+
+    fn from(plain: PlainRecord) -> Record {
+        let phase = Phase::from(plain.phase);
+        let count = plain.count.min(most_entries(phase));
+        let cursor = plain.cursor.min(furthest_cursor(phase, count));
+        let repeats = plain.repeats.min(most_repeats(phase));
+        Record {
+            phase,
+            count,
+            cursor,
+            repeats,
+        }
     }
 }
 
 // The plain numbers of a record.
-pub fn plain_of(record: Record) -> PlainRecord
-    ensures { result ≡ plain_of «record» }
-{
-    PlainRecord {
-        phase: record.phase.number(),
-        count: record.count,
-        cursor: record.cursor,
-        repeats: record.repeats,
+impl From<Record> for PlainRecord {
+    ghost from_gives = { λ r plain. plain ≡ plain_of r };
+
+    fn from(record: Record) -> PlainRecord {
+        PlainRecord {
+            phase: record.phase.number(),
+            count: record.count,
+            cursor: record.cursor,
+            repeats: record.repeats,
+        }
     }
 }

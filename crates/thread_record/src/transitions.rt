@@ -48,7 +48,7 @@ impl Record {
         Record::at_start(Phase::Copying, self.count)
     }
 
-    // One entry on, in the same phase.
+    // One entry on, in the same phase. Field by field: a struct with ghost fields takes no `..self`.
     pub fn advanced(self) -> Record
         ensures { Is self.phase self.count (min (self.cursor + 1) (cursor_limit self.phase self.count)) self.repeats result }
     {

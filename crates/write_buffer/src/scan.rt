@@ -8,35 +8,23 @@ use crate::entry::Entry;
 pub fn are_below(entries: &[Entry], size: usize) -> bool
     ensures { result ≡ all_below size entries.now }
 {
-    for e in entries {
-        if e.address as usize >= size {
-            return false;
-        }
-    }
-    true
+    entries.iter().all(|e| (e.address as usize) < size)
 }
 
 // The word of the first entry with an address.
 pub fn look_up(entries: &[Entry], address: u32) -> Option<u32>
     ensures { result ≡ lookup entries.now address }
 {
-    for e in entries {
-        if e.address == address {
-            return Some(e.word);
-        }
-    }
-    None
+    entries
+        .iter()
+        .find(|e| e.address == address)
+        .map(|e| e.word)
 }
 
-// The place of the first entry with an address, or the end.
+// The place of the first entry with an address, or the end: so many entries stand before it.
 pub fn place_of(entries: &[Entry], address: u32) -> usize
     ensures found { result ≡ place entries.now address }
     ensures within { result ≤ length entries.now }
 {
-    for (i, e) in entries.iter().enumerate() {
-        if e.address == address {
-            return i;
-        }
-    }
-    entries.len()
+    entries.iter().take_while(|e| e.address != address).count()
 }

@@ -11,7 +11,7 @@ pub returns-in_err-record : goal.returns-in_err-record
 unfolding refusal
 returns-in_err-record g c =
     let t = c.args.thread in
-    passed_on g.R.Signature g.W.Signature (abandon t) (λ _. abandoned t) c.args.self.now c.in_err-record.was
+    passed_on g.R.Signature g.W.Signature (abandon t) (λ _. abandoned t) c.args.self.now _
     (λ d e. c.in_err-record.ensures.decides d e (phase_row is_live ((view c.args.self.now d e).thread t).phase None))
     c.from_residual.result c.from_residual.ensures.1
 
@@ -20,7 +20,7 @@ unfolding refusal
 returns-in_err-check_abandonable g c =
     let t = c.args.thread in
     let found = c.in_ok-record.ensures in
-    passed_on g.R.Signature g.W.Signature (abandon t) (λ _. abandoned t) c.args.self.now c.in_err-check_abandonable.was
+    passed_on g.R.Signature g.W.Signature (abandon t) (λ _. abandoned t) c.args.self.now _
     (λ d e. c.in_err-check_abandonable.ensures None ∙ ap (λ p. phase_row is_live p None) found.accepts.reads.phase ∙ found.decides d e (phase_row is_live ((view c.args.self.now d e).thread t).phase None))
     c.from_residual-in_err-check_abandonable.result c.from_residual-in_err-check_abandonable.ensures.1
 
@@ -33,7 +33,7 @@ returns g c =
       follows = λ d e.
           abandons
           (sym (c.in_ok-check_abandonable.ensures None ∙ ap (λ p. phase_row is_live p None) found.accepts.reads.phase ∙ found.decides d e (phase_row is_live ((view c.args.self.now d e).thread t).phase None)))
-          (c.release.ensures.only d e) (c.release.ensures.thread d e);
+          (c.clear.ensures.only d e) (c.clear.ensures.thread d e);
       unaltered = tt;
-      parts = c.release.ensures.parts;
+      parts = c.clear.ensures.parts;
     }

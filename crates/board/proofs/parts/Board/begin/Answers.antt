@@ -11,18 +11,18 @@ pub returns-in_err-record : goal.returns-in_err-record
 unfolding refusal
 returns-in_err-record g c =
     let t = c.args.thread in
-    passed_on g.R.Signature g.W.Signature (begin t) (λ _. began t) c.args.self.now c.in_err-record.was
+    passed_on g.R.Signature g.W.Signature (begin t) (λ _. began t) c.args.self.now _
     (λ d e. c.in_err-record.ensures.decides d e (phase_rows is_idle ((view c.args.self.now d e).thread t).phase t None))
     c.from_residual.result c.from_residual.ensures.1
 
-pub returns-in_err-check_idle : goal.returns-in_err-check_idle
+pub returns-in_err-check_phase : goal.returns-in_err-check_phase
 unfolding refusal
-returns-in_err-check_idle g c =
+returns-in_err-check_phase g c =
     let t = c.args.thread in
     let found = c.in_ok-record.ensures in
-    passed_on g.R.Signature g.W.Signature (begin t) (λ _. began t) c.args.self.now c.in_err-check_idle.was
-    (λ d e. c.in_err-check_idle.ensures None ∙ ap (λ p. phase_rows is_idle p t None) found.accepts.reads.phase ∙ found.decides d e (phase_rows is_idle ((view c.args.self.now d e).thread t).phase t None))
-    c.from_residual-in_err-check_idle.result c.from_residual-in_err-check_idle.ensures.1
+    passed_on g.R.Signature g.W.Signature (begin t) (λ _. began t) c.args.self.now _
+    (λ d e. c.in_err-check_phase.ensures.decides None ∙ ap (λ p. phase_rows is_idle p t None) found.accepts.reads.phase ∙ found.decides d e (phase_rows is_idle ((view c.args.self.now d e).thread t).phase t None))
+    c.from_residual-in_err-check_phase.result c.from_residual-in_err-check_phase.ensures.1
 
 pub returns : goal.returns
 unfolding refusal
@@ -32,8 +32,8 @@ returns g c =
     record {
       follows = λ d e.
           begins
-          (sym (c.in_ok-check_idle.ensures None ∙ ap (λ p. phase_rows is_idle p t None) found.accepts.reads.phase ∙ found.decides d e (phase_rows is_idle ((view c.args.self.now d e).thread t).phase t None)))
-          (c.start.ensures.only d e) (c.start.ensures.thread d e);
+          (sym (c.in_ok-check_phase.ensures.decides None ∙ ap (λ p. phase_rows is_idle p t None) found.accepts.reads.phase ∙ found.decides d e (phase_rows is_idle ((view c.args.self.now d e).thread t).phase t None)))
+          (c.clear.ensures.only d e) (c.clear.ensures.thread d e);
       unaltered = tt;
-      parts = c.start.ensures.parts;
+      parts = c.clear.ensures.parts;
     }

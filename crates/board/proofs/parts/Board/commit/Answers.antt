@@ -16,18 +16,18 @@ pub returns-in_err-before : goal.returns-in_err-before
 unfolding refusal
 returns-in_err-before g c =
     let t = c.args.thread in
-    passed_on g.R.Signature g.W.Signature (commit t) (λ _. committed t) c.args.self.now c.in_err-before.was
+    passed_on g.R.Signature g.W.Signature (commit t) (λ _. committed t) c.args.self.now _
     (λ d e. c.in_err-before.ensures.decides d e (phase_rows is_running ((view c.args.self.now d e).thread t).phase t None))
     c.from_residual.result c.from_residual.ensures.1
 
-pub returns-in_err-check_running : goal.returns-in_err-check_running
+pub returns-in_err-check_phase : goal.returns-in_err-check_phase
 unfolding refusal
-returns-in_err-check_running g c =
+returns-in_err-check_phase g c =
     let t = c.args.thread in
     let found = c.in_ok-before.ensures in
-    passed_on g.R.Signature g.W.Signature (commit t) (λ _. committed t) c.args.self.now c.in_err-check_running.was
-    (λ d e. c.in_err-check_running.ensures.decides None ∙ ap (λ p. phase_rows is_running p t None) found.accepts.reads.phase ∙ found.decides d e (phase_rows is_running ((view c.args.self.now d e).thread t).phase t None))
-    c.from_residual-in_err-check_running.result c.from_residual-in_err-check_running.ensures.1
+    passed_on g.R.Signature g.W.Signature (commit t) (λ _. committed t) c.args.self.now _
+    (λ d e. c.in_err-check_phase.ensures.decides None ∙ ap (λ p. phase_rows is_running p t None) found.accepts.reads.phase ∙ found.decides d e (phase_rows is_running ((view c.args.self.now d e).thread t).phase t None))
+    c.from_residual-in_err-check_phase.result c.from_residual-in_err-check_phase.ensures.1
 
 pub returns : goal.returns
 unfolding refusal
@@ -40,7 +40,7 @@ returns g c =
     record {
       follows = λ d e.
           commits
-          (sym (c.in_ok-check_running.ensures.decides None ∙ ap (λ p. phase_rows is_running p t None) found.accepts.reads.phase ∙ found.decides d e (phase_rows is_running ((view b d e).thread t).phase t None)))
+          (sym (c.in_ok-check_phase.ensures.decides None ∙ ap (λ p. phase_rows is_running p t None) found.accepts.reads.phase ∙ found.decides d e (phase_rows is_running ((view b d e).thread t).phase t None)))
           (record_only t b b' d e c.store_record.ensures)
           (stored_thread t b found.accepts.has b' c.committed.result Validating before.count 0 0 c.committed.ensures c.store_record.ensures d e
           ∙ (λ i. stored Validating (sym (own_buffer t before b found.accepts d e) i) 0 0 (part t b.entries.now) (get_or b.reads.now t d) (get_or b.writes.now t e)));

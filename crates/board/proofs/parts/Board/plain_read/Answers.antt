@@ -13,36 +13,36 @@ pub returns-in_err-check_plain : goal.returns-in_err-check_plain
 unfolding refusal
 returns-in_err-check_plain g c =
     let a = c.args.address in
-    passed_on g.R.Signature g.W.Signature (plain_read a) (λ v. plain_got a v) c.args.self.now c.in_err-check_plain.was
+    passed_on g.R.Signature g.W.Signature (plain_read a) (λ v. plain_got a v) c.args.self.now _
     (λ d e. c.in_err-check_plain.ensures.decides d e (nack_row (nacker g.R.Signature g.W.Signature (view c.args.self.now d e) None (line a))))
     c.from_residual.result c.from_residual.ensures.1
 
-pub returns-in-Err : goal.returns-in-Err
+pub returns-in_err-ask : goal.returns-in_err-ask
 unfolding refusal
-returns-in-Err g c =
+returns-in_err-ask g c =
     let a = c.args.address in
     let b = c.args.self.now in
     let found = c.in_ok-check_plain.ensures in
     let on_line = c.line_of.ensures ∙ line_fits b found.accepts.fits a found.accepts.address in
-    nacked_by g.R.Signature g.W.Signature (plain_read a) (λ v. plain_got a v) b c.in-Err.by c.request.new.self
+    nacked_by g.R.Signature g.W.Signature (plain_read a) (λ v. plain_got a v) b _ c.ask.new.self
     (λ d e.
-    let nacking = ap (λ l. nacker g.R.Signature g.W.Signature (view b d e) None l) (sym on_line) ∙ c.in-Err.ensures.0 d e in
+    let nacking = ap (λ l. nacker g.R.Signature g.W.Signature (view b d e) None l) (sym on_line) ∙ c.in_err-ask.ensures.0 d e in
     sym (ap nack_row nacking) ∙ found.decides d e (nack_row (nacker g.R.Signature g.W.Signature (view b d e) None (line a))))
-    c.in-Err.ensures.1
+    c.in_err-ask.ensures.1 c.from_residual-in_err-ask.result c.from_residual-in_err-ask.ensures.1
 
 pub returns : goal.returns
 unfolding refusal
 returns g c =
     let a = c.args.address in
     let b = c.args.self.now in
-    let b' = c.request.new.self in
+    let b' = c.ask.new.self in
     let found = c.in_ok-check_plain.ensures in
     let on_line = c.line_of.ensures ∙ line_fits b found.accepts.fits a found.accepts.address in
-    let asked = subst (λ l. (d : g.row.R.Denot) (e : g.row.W.Denot) → Requested g.R.Signature g.W.Signature false None l (view b d e) (view b' d e)) on_line c.in_default.ensures.0 in
+    let asked = subst (λ l. (d : g.row.R.Denot) (e : g.row.W.Denot) → Requested g.R.Signature g.W.Signature false None l (view b d e) (view b' d e)) on_line c.in_ok-ask.ensures.0 in
     record {
       follows = λ d e.
           subst (λ v. Rule g.R.Signature g.W.Signature (view b d e) (plain_got a v) (view b' d e)) (sym (c.word_at.ensures ∙ (asked d e).memory a))
           (reads_plain (sym (found.decides d e (nack_row (nacker g.R.Signature g.W.Signature (view b d e) None (line a)))) ∙ ap nack_row (asked d e).free) (asked d e));
       unaltered = tt;
-      parts = c.in_default.ensures.1;
+      parts = c.in_ok-ask.ensures.1;
     }
