@@ -39,7 +39,7 @@ fn a_narrow_register_hits_falsely(rt: HostRuntime) {
     assert!(rt; narrow.hit(0));
     assert!(rt; !narrow.hit(1));
     narrow.reset();
-    assert!(rt; narrow.ones() == 0);
+    assert_eq!(rt; narrow.ones(), 0);
 }
 
 #[test]

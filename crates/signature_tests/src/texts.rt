@@ -9,8 +9,8 @@ fn reads(
     malformed: Option<usize>,
 ) -> Result<(), Fail> {
     let reading = read(rt.alloc(), text)?;
-    assert!(rt; reading.lines.as_slice() == lines);
-    assert!(rt; reading.malformed == malformed);
+    assert_eq!(rt; reading.lines.as_slice(), lines);
+    assert_eq!(rt; reading.malformed, malformed);
     Ok(())
 }
 
