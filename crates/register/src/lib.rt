@@ -26,8 +26,25 @@ fn ones_of(word: u64) -> usize
     word.count_ones() as usize
 }
 
-impl<const WORDS: usize> Register<WORDS> {
+// A public function asks nothing of its caller, so `new` stands at each width that has a name.
+impl Register<16> {
     pub fn new() -> Self
+        ensures { Cleared 16 result.words }
+    {
+        Register::<16>::cleared()
+    }
+}
+
+impl Register<2> {
+    pub fn new() -> Self
+        ensures { Cleared 2 result.words }
+    {
+        Register::<2>::cleared()
+    }
+}
+
+impl<const WORDS: usize> Register<WORDS> {
+    fn cleared() -> Self
         requires some { 0 < WORDS }
         requires few { WORDS ≤ 1024 }
         ensures { Cleared WORDS result.words }
@@ -85,7 +102,7 @@ impl<const WORDS: usize> Signature for Register<WORDS> {
     ghost inserts = { λ s line t. Sets WORDS s.words (bits_of WORDS line) t.words };
 
     fn reset(&mut self) {
-        *self = Register::new();
+        *self = Register::cleared();
     }
 
     // One after another: a loop over `bits` takes more instructions.
