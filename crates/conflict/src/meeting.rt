@@ -20,6 +20,14 @@ pub fn one_more(repeats: u32) -> Effect
     }
 }
 
+// Whether a signature hits. Never inlined, since few threads of a walk are asked: else each request works out the hashes.
+#[inline(never)]
+fn hits<S: Signature>(signature: &S, line: u16) -> bool
+    ensures { result ≡ S.Signature.has signature.now line }
+{
+    signature.hit(line)
+}
+
 impl Request {
     fn meets(self, u: u32) -> bool
         ensures { result ≡ other self.from u }
@@ -28,17 +36,18 @@ impl Request {
     }
 
     // Whether thread u nacks the request.
+    #[inline]
     pub fn is_nacked_by<W: Signature>(self, u: u32, record: Record, writes: &W) -> bool
         ensures { result ≡ (other self.from u && nacks_in «record».phase (W.Signature.has writes.now self.line)) }
     {
-        self.meets(u) && record.phase == Phase::Copying && writes.hit(self.line)
+        self.meets(u) && record.phase == Phase::Copying && hits(writes, self.line)
     }
 
     // Whether the request aborts a thread that has read the line.
     fn aborts_reader<R: Signature>(self, reads: &R) -> bool
         ensures { result ≡ (is_exclusive self.access && R.Signature.has reads.now self.line) }
     {
-        self.access == Access::Exclusive && reads.hit(self.line)
+        self.access == Access::Exclusive && hits(reads, self.line)
     }
 
     // What the request does to another thread, when nobody nacked it.
@@ -47,7 +56,7 @@ impl Request {
     {
         match record.phase {
             Phase::Running | Phase::Validating if self.aborts_reader(reads) => Effect::Aborts,
-            Phase::Validating if writes.hit(self.line) => one_more(record.repeats),
+            Phase::Validating if hits(writes, self.line) => one_more(record.repeats),
             _ => Effect::Stays,
         }
     }
