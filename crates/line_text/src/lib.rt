@@ -1,7 +1,8 @@
 // Line numbers out of a text, one to a line.
 #![tactic(auto)]
 
-ghost use Rattle.std.specs.Prelude.{◌≡◌, ◌<◌, ◌∷◌, ◌==◌, length, position, IfOk};
+ghost use Rattle.std.specs.Prelude.{◌≡◌, ◌<◌, ◌≤◌, ◌∷◌, ◌==◌, length, IfOk};
+ghost use Rattle.std.specs.List.{position_or_len};
 ghost use Rattle.line_text.specs.Texts.{one_more, number_of, lines_of, numbers_in, malformed_from};
 
 use std::alloc::{AllocError, Global};
@@ -14,15 +15,17 @@ pub struct Reading {
 }
 
 // One digit more, while the number stays below 65,536.
-fn next_digit(number: u16, byte: u8) -> Option<u16>
+fn next_digit(number: u32, byte: u8) -> Option<u32>
     ensures { result ≡ one_more number byte }
 {
     if !byte.is_ascii_digit() {
         return None;
     }
-    number.checked_mul(10)?.checked_add(u16::from(byte - b'0'))
+    let longer = 10 * u64::from(number) + u64::from(byte - b'0');
+    u16::try_from(longer).ok().map(u32::from)
 }
 
+// A `u32` until the line ends: a `u16` would have to be widened at each digit, which takes longer.
 fn number(line: &[u8]) -> Option<u16>
     ensures { result ≡ number_of line.now }
 {
@@ -33,27 +36,27 @@ fn number(line: &[u8]) -> Option<u16>
     for byte in line {
         number = next_digit(number, *byte)?;
     }
-    Some(number)
+    u16::try_from(number).ok()
 }
 
-// Where the first newline stands.
-fn line_end(text: &[u8]) -> Option<usize>
-    ensures { result ≡ position (λ byte. byte == 10) text.now }
+// How many bytes stand before the first newline. No `position`: it counts beside the pointer, and takes a third longer.
+fn line_length(text: &[u8]) -> usize
+    ensures counts { result ≡ position_or_len (λ byte. byte == 10) text.now }
+    ensures within { result ≤ length text.now }
 {
-    text.iter().position(|byte| *byte == b'\n')
+    text.iter().take_while(|byte| **byte != b'\n').count()
 }
 
 // The first line, and the text after it.
-#[tactic(auto, using(crate::proofs::TextLaws::first_line, crate::proofs::TextLaws::only_line))]
+#[tactic(auto, using(crate::proofs::TextLaws::first_line))]
 fn split_line(text: &[u8]) -> (&[u8], &[u8])
     requires { 0 < length text.now }
     ensures splits { lines_of text.now ≡ result.0.now ∷ lines_of result.1.now }
     ensures shorter { length result.1.now < length text.now }
 {
-    match line_end(text) {
-        Some(end) => (&text[..end], &text[end + 1..]),
-        None => (text, &[]),
-    }
+    let (line, rest) = text.split_at(line_length(text));
+    // Past the newline, where there is one: no branch, which would take longer on short lines.
+    (line, &rest[rest.len().min(1)..])
 }
 
 pub fn read(heap: Global, text: &[u8]) -> Result<Reading, AllocError>
