@@ -7,7 +7,7 @@ use Rattle.write_buffer.specs.declared.entry.Entry.{Entry}
 use Rattle.write_buffer.specs.Buffers.{fronted, lookup, place, placed}
 
 -- an address that is not there has its place at the end
-place_cases : (b : List Entry) (a : ℕ) → ((place b a ≡ length b) × (is_some (lookup b a) ≡ false)) ⊎ ((place b a < length b) × (is_some (lookup b a) ≡ true))
+pub place_cases : (b : List Entry) (a : ℕ) → ((place b a ≡ length b) × (is_some (lookup b a) ≡ false)) ⊎ ((place b a < length b) × (is_some (lookup b a) ≡ true))
 place_cases [] a = inl (refl, refl)
 place_cases (e ∷ es) a = go (e.address == a) (place_cases es a)
   where
@@ -22,6 +22,9 @@ place_cases (e ∷ es) a = go (e.address == a) (place_cases es a)
     go true r = inr (omega arith, refl)
     go false (inl h) = inl (omega (arith, h.0), h.1)
     go false (inr h) = inr (omega (arith, h.0), h.1)
+
+pub place_most : (b : List Entry) (a : ℕ) → place b a ≤ length b
+place_most b a = elim (place_cases b a) [ inl h ↦ omega (arith, h.0) | inr h ↦ omega (arith, h.0) ]
 
 -- no room is left just where the place is beyond the last
 pub place_full : (b : List Entry) (a : ℕ) → length b ≤ 32 → eqb (place b a) 32 ≡ (eqb (length b) 32 && not (is_some (lookup b a)))
